@@ -16,7 +16,7 @@ use Rattle.paxos_msg.specs.Records.{changed}
 use Rattle.paxos_msg.specs.declared.record.Change.TheVariants.{Start}
 use Rattle.group_protocol.specs.declared.fault.NodeFault.{NodeFault}
 use Rattle.group_protocol.specs.declared.fault.NodeFault.TheVariants.{BadRecord, StartsSpent, Store}
-use Rattle.group_node.specs.declared.node.StartRefused.{StartRefused}
+use Rattle.group_protocol.specs.declared.start.StartRefused.{StartRefused}
 use Rattle.paxos_msg.specs.declared.limits.TheConstants.{LAST_START}
 
 -- The claim that the start is refused with this fault.
@@ -62,7 +62,7 @@ pub record StartsByLoad {S : Type 0} (kind : StoreKind S) (me : Me) (store : S)
 -- A node that has just started: not stopped, in its ranges, and its machine has made no step.
 pub record IsFresh {S : Type 0} (me : Me) (program : Parts) (n : NodeState S) : Type 0 where
   pub begins : (kept : Record) × (n.protocol.known ≡ (on_start me kept).node)
-  pub stops : n.protocol.is_stopped ≡ false
+  pub works : n.protocol.is_stopped ≡ false
   pub progress : n.progress ≡ no_progress program
   pub ranges : IsInRange n.protocol.known
 

@@ -22,6 +22,6 @@ mod node;
 mod player;
 
 pub use console::{Console, Offer};
-pub use group_protocol::{Config, NodeFault, Outbox, Packet, To};
-pub use node::{Node, StartRefused};
+pub use group_protocol::{Config, NodeFault, Outbox, Packet, StartRefused, To};
+pub use node::Node;
 pub use player::Ran;

@@ -19,8 +19,8 @@ ghost use Rattle.group_node.specs.Starting.{IsFresh, StartsByPlan, StartsHonestl
 ghost use Rattle.group_node.specs.States.{input};
 
 use crate::player::{Player, Ran};
-use group_protocol::laws::{calls_keep_what_is_learned, what_goes_out_fits};
-use group_protocol::{Config, NodeFault, Outbox, Protocol, Waiting, node_fault};
+use group_protocol::laws::calls_keep_what_is_learned;
+use group_protocol::{Config, NodeFault, Outbox, Protocol, StartRefused, Waiting, node_fault};
 use paxos_acceptor::{Acceptor, OpenRefused, Store};
 use paxos_learner::laws::input_grows;
 use paxos_msg::limits::LAST_START;
@@ -66,13 +66,6 @@ impl<'a, S: Store> Model for Node<'a, S> {
     ghost invariant = { λ n. IsPlayed (input n.protocol.known) n.player };
 }
 
-/// A store over which a node was not started, and why.
-#[derive(Drop)]
-pub struct StartRefused<S> {
-    pub fault: NodeFault,
-    pub store: S,
-}
-
 /// Makes the room of a node besides its acceptor: for the machine and its output, and for the keys
 /// that wait.
 fn room<'a>(alloc: Global, program: &'a Program) -> Result<(Player<'a>, Waiting), AllocError>
@@ -111,8 +104,7 @@ impl<'a, S: Store> Node<'a, S> {
         ensures others { IfErr result (λ e. IsAmong (NodeFault.Memory ∷ NodeFault.Store
             ∷ NodeFault.BadRecord ∷ NodeFault.StartsSpent ∷ []) e.fault) }
     {
-        what_goes_out_fits();
-        let mut acceptor = match Acceptor::open(alloc, store, config.me()) {
+        let acceptor = match Acceptor::open(alloc, store, config.me()) {
             Ok(acceptor) => acceptor,
             Err(OpenRefused { fault, store }) => {
                 let fault = node_fault(fault);
@@ -129,16 +121,8 @@ impl<'a, S: Store> Node<'a, S> {
             let store = acceptor.into_store();
             return Err(StartRefused { fault, store });
         };
-        match acceptor.new_start() {
-            Ok(_) => {
-                let protocol = Protocol::new(alloc, &config, acceptor, waiting);
-                Ok(Node { protocol, player })
-            }
-            Err(fault) => Err(StartRefused {
-                fault: node_fault(fault),
-                store: acceptor.into_store(),
-            }),
-        }
+        let protocol = Protocol::start(alloc, &config, acceptor, waiting)?;
+        Ok(Node { protocol, player })
     }
 
     /// Types `byte` at the node. Returns its key, with this node, this start and the next serial,

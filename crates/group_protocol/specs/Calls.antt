@@ -41,7 +41,7 @@ pub record Does {S T : Type 0} (old new : Protocol S) (before now : List Datagra
 pub record Knows {S : Type 0} (old new : Protocol S) (n : Known) : Type 0 where
   pub known : new.known ≡ n
   pub store : new.store ≡ old.store
-  pub stops : new.is_stopped ≡ old.is_stopped
+  pub stays : new.is_stopped ≡ old.is_stopped
 
 -- The store after a call with this response.
 -- At `Ok` an honest one has the response's record. After a fault of the device it has the old one

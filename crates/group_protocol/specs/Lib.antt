@@ -12,4 +12,5 @@ pub mod Ranges
 pub mod Steps
 pub mod States
 pub mod Calls
+pub mod Starting
 pub mod Fault

@@ -1,8 +1,8 @@
 //! A node's part in the protocol, for those who replicate a machine of their own.
 //!
 //! - `Config::new(node, size, session)?` is a node's place in its group. Open an `Acceptor` over
-//! its store and count the start (`new_start`). `Protocol::new(alloc, &config, acceptor,
-//! Waiting::new(alloc)?)` is the node after that start.
+//! its store, and make the room for your machine. `Protocol::start(alloc, &config, acceptor,
+//! Waiting::new(alloc)?)` counts the start, saves it, and returns the node.
 //! - `typed(byte)?`, `on_message(&view, &mut outbox)?`, `campaign(&mut outbox)?` and
 //! `tick(&mut outbox)?` are its events. Each saves first, at most once. Then it puts the packets
 //! that are to be sent into the outbox, from which `outbox.pop()` takes them.
@@ -24,6 +24,7 @@ mod packet;
 mod proposer_rows;
 mod protocol;
 mod pump;
+mod start;
 mod tick;
 mod waiting_keys;
 
@@ -32,4 +33,5 @@ pub use fault::{NodeFault, node_fault};
 pub use outbox::Outbox;
 pub use packet::{Packet, To};
 pub use protocol::Protocol;
+pub use start::StartRefused;
 pub use waiting_keys::Waiting;

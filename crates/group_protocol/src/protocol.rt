@@ -1,10 +1,11 @@
-//! A node's part in the protocol: its parts, a typed key, and the calls with an outbox.
+//! A node's part in the protocol: its parts, a typed key, and the calls with an outbox. Its start
+//! is in `start`.
 ghost use Rattle.std.specs.Prelude.{◌≡◌, ◌↔◌, ◌⊎◌, ◌+◌, ◌<◌, ◌≤◌, [], ◌∷◌, false, length, IfErr, IfOk, IsErrOf, IsSome, OnOk};
 ghost use Rattle.paxos_msg.specs.declared.limits.TheConstants.{LAST_SERIAL};
 ghost use Rattle.group_protocol.specs.declared.limits.TheConstants.{MOST_WAITING, TICK_PACKETS};
 ghost use Rattle.paxos_acceptor.specs.Calls.{FailsOnlyWith};
 ghost use Rattle.group_protocol.specs.Ranges.{IsInRange};
-ghost use Rattle.group_protocol.specs.Known.{begun, on_typed, new_key, next_serial};
+ghost use Rattle.group_protocol.specs.Known.{on_typed, new_key, next_serial};
 ghost use Rattle.paxos_msg.specs.Datagrams.{Fits};
 ghost use Rattle.group_protocol.specs.Calls.{Does, DoesAndSaves, IsCampaignRefused, IsLet, RefusesUnlessLet, Knows, MayFailToSave, RefusesIfStopped};
 ghost use Rattle.group_protocol.specs.Protocol.{answer_to, NeedsMemory, row};
@@ -79,42 +80,6 @@ impl<S: Store> Model for Protocol<S> {
 }
 
 impl<S: Store> Protocol<S> {
-    /// Returns the node after a start that `acceptor` has counted. It has heard, learned, offered
-    /// and typed nothing, has no proposer, and remembers no ballot that refused it. Its next key
-    /// has the serial 1.
-    ///
-    /// `acceptor` is of the node of `config`, its record counts a start, and `waiting` is empty, as
-    /// `Waiting::new` makes it: a caller makes that room before the start is saved.
-    pub fn new(
-        alloc: Global,
-        config: &Config,
-        acceptor: Acceptor<S>,
-        waiting: Waiting,
-    ) -> Protocol<S>
-        requires me { acceptor.me ≡ config.now }
-        requires counted { 0 < acceptor.kept.starts }
-        requires none { waiting ≡ record { first = 1; bytes = [] } }
-        ensures known { result.known ≡ begun config.now acceptor.kept }
-        ensures stops { result.is_stopped ≡ acceptor.is_closed }
-        ensures store { result.store ≡ acceptor.store }
-        ensures ranges { IsInRange result.known }
-    {
-        what_goes_out_fits();
-        let me = config.me();
-        // It says that the record is in its ranges, and that an honest store has it.
-        let _record = acceptor.record();
-        Protocol {
-            me,
-            acceptor,
-            learner: Learner::new(alloc, me.group.size),
-            proposer: None,
-            remembered: None,
-            offered: KeySet::new(alloc),
-            waiting,
-            alloc,
-        }
-    }
-
     /// Types `byte` at the node. Returns its key, with this node, this start and the next serial,
     /// from 1 on. The key waits as the last (`on_typed`). Fails with `Stopped` if a save has
     /// failed, else with `Busy` if 256 keys wait, else with `SerialSpent` if the serial

@@ -1,19 +1,17 @@
 -- How a call of a node that may send ends, by the contract of the node's call.
 use Rattle.std.proofs.lemmas.Option.{same_Some}
-use Rattle.std.proofs.Common.{◌≡◌, ◌≢◌, ◌⊎◌, ◌∙◌, ◌<◌, ℕ, Bool, if◌then◌else◌, List, [], Option, None, Some, Result, Ok, Err, IfErr, IsErrOf, OnErr, OnOk, length, inl, inr, refl, sym, ap, subst, arith}
+use Rattle.std.proofs.Common.{◌≡◌, ◌≢◌, ◌⊎◌, ◌∙◌, ◌<◌, ℕ, Bool, if◌then◌else◌, List, [], Option, None, Some, Result, Ok, Err, IfErr, IsErrOf, OnErr, OnOk, inl, inr, refl, sym, ap, subst, arith}
 use Rattle.std.proofs.lemmas.Bool.Decides.{nat_tests}
-use Rattle.std.proofs.lemmas.Bool.{both_ways, false_from_ne_true}
 use Rattle.paxos_msg.specs.Batches.{Change, Msg, Record}
 use Rattle.paxos_msg.specs.Datagrams.{Fits}
 use Rattle.paxos_acceptor.specs.Memories.{memory_kind}
 use Rattle.paxos_acceptor.specs.Stores.{FailsAsPlanned, StoreState}
-use Rattle.paxos_proposer.specs.Proposer.{Proposer}
 use Rattle.group_protocol.specs.declared.fault.NodeFault.{NodeFault}
 use Rattle.group_protocol.specs.declared.fault.NodeFault.TheVariants as fault
 use Rattle.group_protocol.specs.Calls.{IsCampaignRefused, Does, RefusesUnlessLet, Saves}
 use Rattle.group_protocol.specs.Known.{Response, Known, front}
 use Rattle.group_protocol.specs.ProposerRows.{last_round, on_campaign}
-use Rattle.group_protocol.specs.Tick.{on_tick, ticked}
+use Rattle.group_protocol.specs.Tick.{on_tick}
 use Rattle.group_protocol.specs.Packets.{Datagram}
 use Rattle.group_protocol.specs.Protocol.{on_message}
 use Rattle.group_node.specs.States.{NodeState}
@@ -27,25 +25,14 @@ use Rattle.group_world.specs.Member.{NodeCall, CallEnds, IsDone, IsOfMember, IsO
 abbrev pub Answer : Type 0
 Answer = Result (Unit {0}) NodeFault
 
-neither : {P Q : Type 0} → P ⊎ Q → ¬ P → ¬ Q → ⊥
-neither (inl p) not_p not_q = not_p p
-neither (inr q) not_p not_q = not_q q
-
--- the fault of a refusal is this one
-pub is_fault : {T : Type 0} {f g : NodeFault} → IsErrOf {T = T} (Err f) g → f ≡ g
-is_fault e = cc
-
 -- no failure was planned for a save that succeeded
 planless : (saves : Option Change) (plan : Option Bool) → (saves ≢ None → plan ≡ None) → failing saves plan ≡ None
-planless None plan h = refl
-planless (Some c) plan h = h (λ e. absurd cc)
+planless saves plan h = grind (arith, nat_tests)
 
 -- a failure was planned for a save that failed, and it left the record of the plan
 pub as_planned : (saves : Option Change) (plan : Option Bool) (old next left : Record) → saves ≢ None → FailsAsPlanned plan old next left
     → (is_kept : Bool) × (failing saves plan ≡ Some is_kept) × (left ≡ (if is_kept then next else old))
-as_planned None plan old next left some h = absurd (some refl)
-as_planned (Some c) None old next left some h = absurd h
-as_planned (Some c) (Some is_kept) old next left some h = (is_kept, refl, h)
+as_planned saves plan old next left some h = grind (arith, nat_tests)
 
 -- ---- a node that is asked
 
@@ -82,8 +69,7 @@ pub asked_fits : {plan : Option Bool} {n : NodeState StoreState} {console : List
     {message : Msg} → IsReady plan n console m → m.node ≡ Some q → asked ≡ Hear message → IsOfMember q.known asked
     → Fits n.protocol.known.me.group message
 asked_fits {q = q} {message = message} h up e fits =
-    subst (λ (r : Running). Fits r.known.me.group message) (sym (same_Some _ _ (ap (λ (x : Member). x.node) h.is ∙ up)))
-    (subst (λ x. IsOfMember q.known x) e fits)
+    subst (λ (r : Running). Fits r.known.me.group message) (sym (same_Some _ _ (ap (λ (x : Member). x.node) h.is ∙ up))) (rw e at fits)
 
 -- ---- which call it is
 
@@ -97,8 +83,8 @@ record IsCall (call : NodeCall) (made : Response) (answer : Answer) : Type 0 whe
 -- a call that has no refusal of its own
 never_refused : {made : Response} (answer : Answer) (P : NodeFault → Type 0)
     → ((f : NodeFault) → P f → f ≢ fault.Store → f ≢ fault.Memory → ⊥) → IfErr answer P → IsCall (Makes made []) made answer
-never_refused (Ok x) P none others = record { ok = refl; fell = λ e. refl; refused = tt }
-never_refused (Err f) P none others = record { ok = tt; fell = λ e. refl; refused = λ store memory. absurd (none f others store memory) }
+never_refused answer P none others =
+    record { ok = grind (arith, nat_tests); fell = λ e. refl; refused = grind (arith, nat_tests, none) }
 
 -- a campaign with a round and a place to spare is made
 goes : (n : Known) → last_round n < 4294967295 → front n ≢ 65536 → call_of_campaign n ≡ Makes (on_campaign n) []
@@ -109,25 +95,12 @@ is_campaign : {n : Known} (answer : Answer) → IsCampaignRefused n answer
     → IfErr answer (λ f. (f ≡ fault.RoundsSpent) ⊎ (f ≡ fault.PlacesSpent) ⊎ (f ≡ fault.Memory) ⊎ (f ≡ fault.Store))
     → IsCall (call_of_campaign n) (on_campaign n) answer
 is_campaign {n} (Ok x) says others =
-    record { ok = goes n says.spare (λ e. no_err (says.places.1 (says.spare, e))); fell = λ e. absurd cc; refused = tt }
-  where
-    no_err : IsErrOf {T = Unit {0}} (Ok x) fault.PlacesSpent → ⊥
-    no_err e = absurd cc
+    record { ok = goes n says.spare (λ e. cc (says.places.1 (says.spare, e))); fell = λ e. absurd cc; refused = tt }
 is_campaign {n} (Err f) says others = record {
   ok = tt;
-  fell = λ e. goes n (says.spare_saved e) (λ fills. other (is_fault e) (is_fault (says.places.1 (says.spare_saved e, fills))));
-  refused = λ store memory. by others store memory;
+  fell = λ e. goes n (says.spare_saved e) (λ fills. cc (says.places.1 (says.spare_saved e, fills)));
+  refused = λ store memory. grind (arith, nat_tests, says.rounds, says.places);
 }
-  where
-    other : f ≡ fault.Store → f ≡ fault.PlacesSpent → ⊥
-    other e g = absurd cc
-
-    by : (f ≡ fault.RoundsSpent) ⊎ (f ≡ fault.PlacesSpent) ⊎ (f ≡ fault.Memory) ⊎ (f ≡ fault.Store) → f ≢ fault.Store → f ≢ fault.Memory
-        → call_of_campaign n ≡ Refuses f
-    by (inl rounds) store memory = rw (says.rounds.0 (ap Err rounds), rounds) refl
-    by (inr (inl places)) store memory = let at = says.places.0 (ap Err places) in grind (arith, nat_tests)
-    by (inr (inr (inl is))) store memory = absurd (memory is)
-    by (inr (inr (inr is))) store memory = absurd (store is)
 
 -- ---- what its contract says
 
@@ -154,21 +127,9 @@ said {old} {new} {made} {now = now} {answer = answer} empty does saves = record 
   planned = saves.planned tt tt;
 }
 
--- what holds anyway holds at `Ok`, and at `Err`
-on_ok : {P : Type 0} (answer : Answer) → P → OnOk answer P
-on_ok (Ok x) h = h
-on_ok (Err f) h = tt
-
-on_err : {P : Type 0} (answer : Answer) → P → OnErr answer P
-on_err (Ok x) h = tt
-on_err (Err f) h = h
-
 -- a tick saves nothing
 pub tick_rests : (n : Known) → ((on_tick n).node.kept ≡ n.kept) × ((on_tick n).saves ≡ None)
-tick_rests n = by n.proposer where
-  by : (p : Option Proposer) → ((ticked n p).node.kept ≡ n.kept) × ((ticked n p).saves ≡ None)
-  by None = (refl, refl)
-  by (Some p) = (refl, refl)
+tick_rests n = grind (arith, nat_tests)
 
 -- ---- a call that the node has answered
 
@@ -188,24 +149,16 @@ pub record IsAnswered (plan : Option Bool) (new : UpOrDown) (console : List ℕ)
 taken : {n : NodeState StoreState} {before : List Datagram} (answer : Answer) → IsOpen n → before ≡ []
     → RefusesUnlessLet n.protocol before answer
     → (P : NodeFault → Type 0) → IfErr answer (λ f. (f ≡ fault.Stopped) ⊎ (f ≡ fault.OutboxFull) ⊎ P f) → IfErr answer P
-taken (Ok x) opens empty let_in P others = tt
-taken (Err f) opens empty let_in P (inl stopped) = absurd (both_ways _ opens.works (let_in.stopped.0 (ap Err stopped)))
-taken (Err f) opens empty let_in P (inr (inl fills)) = absurd (omega (arith, (let_in.full.0 (ap Err fills)).1, ap length empty))
-taken (Err f) opens empty let_in P (inr (inr other)) = other
+taken answer opens empty let_in P others = grind (arith, nat_tests, let_in.stopped, let_in.full, opens.works)
 
 module _ {plan : Option Bool} {old new : NodeState StoreState} {console : List ℕ} {m : Member} {before now : List Datagram}
     (h : IsReady plan old console m) (empty : before ≡ []) (progress : new.progress ≡ old.progress) where
   module _ {made : Response} where
     stays_open : (answer : Answer) → Said old new made now answer → ¬ IsErrOf answer fault.Store → IsOpen new
     stays_open answer said fine = record {
-      works = false_from_ne_true _ (λ stops. neither (said.does.stops.0 stops) (both_ways _ h.opens.works) fine);
-      stored = stored answer said fine;
+      works = grind (arith, nat_tests, said.does.stops, h.opens.works);
+      stored = grind (arith, nat_tests, said.saved, said.unsaved, said.does, h.opens);
     }
-      where
-        stored : (answer : Answer) → Said old new made now answer → ¬ IsErrOf answer fault.Store
-            → new.protocol.store.stored ≡ new.protocol.known.kept
-        stored (Ok x) said fine = said.saved ∙ ap (λ (n : Known). n.kept) (sym said.does.ok)
-        stored (Err f) said fine = said.unsaved fine ∙ h.opens.stored ∙ ap (λ (n : Known). n.kept) (sym said.does.err)
 
     -- a node whose call failed knows the same
     same_node : {f : NodeFault} → Said old new made now (Err f) → node_at new console ≡ node_at old console
@@ -236,7 +189,7 @@ module _ {plan : Option Bool} {old new : NodeState StoreState} {console : List �
     call_ends (Err f) said is fell stays (inr (not_store, not_memory, done)) =
         rw (is.refused not_store not_memory) (record {
           answer = done;
-          left = ap (λ x. member_of x console) (stays (λ e. not_store (is_fault e))) ∙ same_node said;
+          left = ap (λ x. member_of x console) (stays (λ e. not_store (cc))) ∙ same_node said;
           sends = said.does.unsent;
           types = refl;
         })
@@ -268,7 +221,7 @@ module _ {plan : Option Bool} {old new : NodeState StoreState} {console : List �
         → IsAnswered plan (member.Up new) console m (Hear message) now answer
     heard message does saves others =
         answered (Hear message) _ (said empty does saves)
-        (never_refused answer _ (λ f either store memory. neither either memory store) (taken answer h.opens empty let_in _ others))
+        (never_refused answer _ (λ f either store memory. grind (arith, nat_tests)) (taken answer h.opens empty let_in _ others))
 
     -- a campaign
     pub campaign_answered : Does old.protocol new.protocol before now (on_campaign old.protocol.known) answer
@@ -287,19 +240,16 @@ module _ {plan : Option Bool} {old new : NodeState StoreState} {console : List �
         → IsAnswered plan (member.Up new) console m Tick now answer
     tick_answered does store others =
         let memory = taken answer h.opens empty let_in (λ f. f ≡ fault.Memory) others in
-        let never = no_device answer memory in
+        let never : ¬ IsErrOf answer fault.Store = λ e. grind (arith, nat_tests) in
         let rests = tick_rests old.protocol.known in
         let same = ap (λ (s : StoreState). s.stored) store in
+        let kept = same ∙ h.opens.stored ∙ sym rests.0 in
         let says : Said old new (on_tick old.protocol.known) now answer = record {
           does = subst (λ b. Does old.protocol new.protocol b now (on_tick old.protocol.known) answer) empty does;
-          saved = on_ok answer (same ∙ h.opens.stored ∙ sym rests.0);
-          unsaved = on_err answer (λ fine. same);
+          saved = grind (arith, nat_tests);
+          unsaved = grind (arith, nat_tests);
           unplanned = λ some. absurd (some rests.1);
           never = λ none. never;
           planned = λ e. absurd (never e);
         } in
         answered Tick _ says (never_refused answer _ (λ f is store memory. memory is) memory)
-      where
-        no_device : (answer : Answer) → IfErr answer (λ f. f ≡ fault.Memory) → ¬ IsErrOf answer fault.Store
-        no_device (Ok x) memory e = absurd cc
-        no_device (Err f) memory e = absurd cc

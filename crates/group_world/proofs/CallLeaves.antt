@@ -1,27 +1,24 @@
 -- The world after a call, by how the call ends.
+use Rattle.std.proofs.lemmas.Bool.Decides.{nat_tests}
 use Rattle.std.proofs.lemmas.Option.{get_or_from_slice_get}
 use Rattle.std.proofs.lemmas.List.{append-nil, set-get_or}
-use Rattle.std.proofs.Common.{set, ◌≡◌, ◌∙◌, ℕ, zero, suc, ◌-◌, ◌<◌, Bool, List, ◌++◌, slice_get, slice_set, Option, None, Some, refl, sym, ap, subst, arith}
+use Rattle.std.proofs.Common.{set, ◌≡◌, ◌∙◌, ℕ, zero, suc, ◌-◌, ◌<◌, Bool, List, ◌++◌, slice_get, slice_set, Option, None, Some, refl, sym, ap, arith}
 use Rattle.paxos_msg.specs.declared.value.Value.{Value}
 use Rattle.paxos_msg.specs.Batches.{Change, Record}
 use Rattle.paxos_acceptor.specs.declared.me.Me.{Me}
-use Rattle.group_node.specs.Deeds.{Deed}
 use Rattle.group_protocol.specs.Known.{Response}
 use Rattle.group_node.specs.Output.{Progress}
 use Rattle.group_protocol.specs.Packets.{Datagram, datagrams_of}
 use Rattle.group_world.specs.declared.event.Done.{Done}
-use Rattle.group_world.specs.declared.event.Done.TheVariants.{Applied}
-use Rattle.group_world.specs.Deeds.{DoesDeed, EndsCall, Left, quietly}
-use Rattle.group_world.specs.Event.{DoesAt, world_after}
+use Rattle.group_world.specs.Deeds.{EndsCall, Left, quietly}
+use Rattle.group_world.specs.Event.{world_after}
 use Rattle.group_world.specs.Group.{World, me_of, member_at, with_member}
-use Rattle.group_world.specs.Member.{CallEnds, CallOutcome, Fell, Happened, Makes, Member, NodeCall, Refused, call_outcome, done_of, failing, member_after, member_after_call, member_after_fall, save_outcome, sent_by, typed_by}
+use Rattle.group_world.specs.Member.{CallOutcome, Fell, Happened, Makes, Member, NodeCall, Refused, call_outcome, done_of, failing, member_after, member_after_call, member_after_fall, sent_by, typed_by}
 
 -- a node of the list has a number, and lies at the index before it
 pub is_at : (members : List Member) (i : ℕ) (m : Member) → member_at members i ≡ Some m → (0 < i) × (slice_get members (i - 1) ≡ Some m)
 is_at members zero m e = absurd cc
-is_at members (suc k) m e =
-    let same : k ≡ suc k - 1 = omega arith in
-    (omega arith, subst (λ j. slice_get members j ≡ Some m) same e)
+is_at members (suc k) m e = let same : suc k - 1 ≡ k = omega arith in (omega arith, rw same e)
 
 -- an element that is put where it was
 pub set_same : {X : Type 0} (xs : List X) (k : ℕ) (x : X) → slice_get xs k ≡ Some x → slice_set xs k x ≡ xs
@@ -87,15 +84,11 @@ abbrev pub left_of : Me → Member → Progress → CallOutcome → Left
 left_of me m progress o = record { answer = done_of o; member = member_after m progress o; sent = sent_by me o; typed = typed_by o }
 
 not_failing : (saves : Option Change) → failing saves None ≡ None
-not_failing None = refl
-not_failing (Some c) = refl
+not_failing saves = grind (arith, nat_tests)
 
 -- a call whose save, if it makes one, is kept
 pub kept_call : (me : Me) (m : Member) (progress : Progress) (call : NodeCall) (made : Response) (keys : List Value)
     → call ≡ Makes made keys
     → EndsCall me m progress None call (left_of me m progress (Happened made keys))
 kept_call me m progress call made keys e =
-    let left : Left = left_of me m progress (Happened made keys) in
-    subst (λ c. EndsCall me m progress None c left) (sym e)
-    (subst (λ o. CallEnds me m progress (save_outcome m.kept made keys o) left.answer left.member left.sent left.typed)
-    (sym (not_failing made.saves)) (record { answer = refl; left = refl; sends = refl; types = refl }))
+    rw (e, not_failing made.saves) (record { answer = refl; left = refl; sends = refl; types = refl })

@@ -1,9 +1,9 @@
 -- Steps of groups that are written down by hand, one after the other.
 use Rattle.std.proofs.lemmas.Bool.Decides.{nat_tests}
 use Rattle.std.proofs.lemmas.Bool.{and_parts, eq-eqb, ne_eqb}
-use Rattle.std.proofs.lemmas.List.Folds.{list_all_at}
-use Rattle.std.proofs.Common.{Contains, IsTrue, ◌==◌, ◌&&◌, not, false, true, ◌≡◌, ◌≢◌, ◌≤◌, ◌<◌, ◌∙◌, ◌↔◌, ℕ, zero, suc, ◌+◌, Bool, List, [], ◌∷◌, ◌++◌, get_or, slice_get, Some, None, Option, IfSome, inl, inr, ◌⊎◌, refl, sym, ap, subst, arith, append-nil}
-use Rattle.std.specs.List.{AllByRecursion as EachOf, list_all}
+use Rattle.std.proofs.lemmas.List.Folds.{list_any_at}
+use Rattle.std.proofs.Common.{Contains, ◌==◌, ◌&&◌, false, true, ◌≡◌, ◌≤◌, ◌<◌, ◌∙◌, ◌↔◌, ℕ, zero, suc, Bool, List, [], ◌∷◌, ◌++◌, slice_get, Some, None, Option, IfSome, inl, inr, ◌⊎◌, refl, sym, ap, arith, take, drop, length, append-nil, ◌+◌}
+use Rattle.std.specs.List.{AllByRecursion as EachOf, list_any}
 use Rattle.std.specs.FinMap.{insert, get}
 use Rattle.pcode_file.specs.Parts.{Parts}
 use Rattle.pcode_machine.specs.Configuration.{Configuration}
@@ -15,9 +15,9 @@ use Rattle.paxos_msg.specs.declared.message.Body.TheVariants.{Accept, Accepted, 
 use Rattle.paxos_msg.specs.declared.record.Change.TheVariants as change
 use Rattle.paxos_msg.specs.declared.value.Value.{Value}
 use Rattle.paxos_msg.specs.declared.value.Value.TheVariants.{Keys}
-use Rattle.paxos_msg.specs.Ballots.{IsAtMost, IsBelow, IsMajority}
+use Rattle.paxos_msg.specs.Ballots.{IsBelow, IsMajority}
 use Rattle.paxos_msg.specs.Batches.{Msg, Body, Change, Record, Vote, IsSafe, IsTyped, MaySendAll, Sent}
-use Rattle.paxos_msg.specs.Chosen.{is_listed, IsChosen, IsChosenBy}
+use Rattle.paxos_msg.specs.Chosen.{is_listed, IsChosen}
 use Rattle.paxos_msg.specs.Keys.{AreOwnKeys, Key, batches, keys_from, keys_of}
 use Rattle.paxos_msg.specs.Messages.{IsPromised, IsSaid, IsSent, kept_vote_at}
 use Rattle.paxos_msg.specs.Records.{MaySave, with_vote}
@@ -36,33 +36,41 @@ use Rattle.group_node.specs.WrongSteps.{ballot_by}
 use Rattle.group_protocol.proofs.Elements.{each_of}
 use Rattle.group_world.specs.RightGroups.{LeadsInSteps, with_call, with_start}
 use Rattle.group_world.proofs.SmallPrograms.{all_go, goes_by, is_step}
+use Rattle.group_world.proofs.WrittenVotes.{at_listed, chosen_by, votes_of}
 
--- ---- a call
+-- ---- a change of a seat, and a call
 
-module _ (w : WorldState) (i : ℕ) (c : Option Change) (bodies : List Body) (now : Up) (keys : List Key) where
-  abbrev next : WorldState
-  next = with_call w i c bodies now keys
+module _ (w : WorldState) (i : ℕ) where
+  seat_by : (seat : Seat) → (with_seat w i seat).seats i ≡ seat
+  seat_by seat = rw (eq-eqb i i refl) refl
 
-  left_by : next.seats i ≡ record { kept = after (w.seats i).kept c; console = (w.seats i).console; up = Some now }
-  left_by = rw (eq-eqb i i refl) refl
-
-  rest_by : ChangesOnly w next i bodies keys
-  rest_by = record { program = refl; size = refl; others = λ j other. rw (ne_eqb j i other) refl; sent = refl; typed = refl }
-
-  makes_call : (was : Up) → (w.seats i).up ≡ Some was → IfSome c (MaySave w.sent (w.seats i).kept)
-      → MaySendAll w.size (w.typed ++ keys) (get now.learned) w.sent i (after (w.seats i).kept c) bodies
-      → LearnsOnly w keys was now → MakesCall w next i c keys
-  makes_call was from saves sends learns = record {
-    bodies = bodies;
-    was = was;
-    now = now;
-    from = from;
-    left = left_by;
-    rest = rest_by;
-    saves = saves;
-    sends = sends;
-    learns = learns;
+  rest_seat : (seat : Seat) → ChangesOnly w (with_seat w i seat) i [] []
+  rest_seat seat = record {
+    program = refl;
+    size = refl;
+    others = λ j other. rw (ne_eqb j i other) refl;
+    sent = sym (append-nil w.sent);
+    typed = sym (append-nil w.typed);
   }
+
+  module _ (c : Option Change) (bodies : List Body) (now : Up) (keys : List Key) where
+    rest_by : ChangesOnly w (with_call w i c bodies now keys) i bodies keys
+    rest_by = record { program = refl; size = refl; others = λ j other. rw (ne_eqb j i other) refl; sent = refl; typed = refl }
+
+    makes_call : (was : Up) → (w.seats i).up ≡ Some was → IfSome c (MaySave w.sent (w.seats i).kept)
+        → MaySendAll w.size (w.typed ++ keys) (get now.learned) w.sent i (after (w.seats i).kept c) bodies
+        → LearnsOnly w keys was now → MakesCall w (with_call w i c bodies now keys) i c keys
+    makes_call was from saves sends learns = record {
+      bodies = bodies;
+      was = was;
+      now = now;
+      from = from;
+      left = seat_by _;
+      rest = rest_by;
+      saves = saves;
+      sends = sends;
+      learns = learns;
+    }
 
 -- a node with one key more that waits, and as it was
 abbrev pub typing : Up → List Key → Up
@@ -87,33 +95,18 @@ knowing was s v = record (still was) { learned = insert was.learned s v }
 learns_at : (w : WorldState) (was : Up) (s : ℕ) (v : Value) → get was.learned s ≡ None → IsChosen w.size w.sent s v
     → LearnsOnly w [] was (knowing was s v)
 learns_at w was s v none chosen = record {
-  keeps = record { stays = λ q u e. stays_there q u e };
+  keeps = record { stays = λ q u e. grind (arith, nat_tests, get_put was.learned s v q) };
   gains = λ q u e. each_put was.learned s (λ q y. (get was.learned q ≡ Some y) ⊎ MayLearn w.size w.sent q y) v
       (inr (inr chosen)) (λ q y e. inl e) q u e;
   configuration = refl;
   released = refl;
   waiting = record { gone = []; parts = refl; below = λ i d below. absurd (omega arith) };
 }
-  where
-    stays_there : (q : ℕ) (u : Value) → get was.learned q ≡ Some u → get (insert was.learned s v) q ≡ Some u
-    stays_there q u e = grind (arith, nat_tests, get_put was.learned s v q)
 
 -- a call that may fail does not
 not_fallen : {w v : WorldState} {i : ℕ} (c : Option Change) → MakesCall w v i c [] → CallOrFall w v i c
 not_fallen None call = call
 not_fallen (Some c) call = inl call
-
--- ---- lists and sets
-
-one_or_other : (a b i : ℕ) → IsTrue (is_listed (a ∷ b ∷ []) i) → (i ≡ a) ⊎ (i ≡ b)
-one_or_other a b i is = grind (arith, nat_tests)
-
--- what holds of two nodes holds of each of them
-pub both : (P : ℕ → Type 0) (a b : ℕ) → P a → P b → (i : ℕ) → IsTrue (is_listed (a ∷ b ∷ []) i) → P i
-both P a b first second i is = elim (one_or_other a b i is) [
-  | inl e ↦ subst P (sym e) first
-  | inr e ↦ subst P (sym e) second
-]
 
 -- ---- what nodes send and learn
 
@@ -124,13 +117,10 @@ abbrev pub key_1 : Key
 key_1 = record { node = 1; start = 1; serial = 1; byte = 65 }
 
 -- a report of all votes of a record
-pub report : (r : Record) (votes : List Vote) (first upto : ℕ) → r.votes ≡ votes
-    → EachOf (λ (x : Vote). (first ≤ x.place) × (x.place < upto)) votes → IsReport r first upto votes
-report r votes first upto is within = record {
-  own = λ vote h. rw is h;
-  within = λ vote h. each_of (λ (x : Vote). (first ≤ x.place) × (x.place < upto)) votes vote within h;
-  whole = λ s from below. ap (λ (votes : List Vote). kept_vote_at votes s) (sym is);
-}
+pub report : (r : Record) (first upto : ℕ) → EachOf (λ (x : Vote). (first ≤ x.place) × (x.place < upto)) r.votes
+    → IsReport r first upto r.votes
+report r first upto within =
+    record { own = λ vote h. h; within = λ vote h. each_of _ r.votes vote within h; whole = λ s from below. refl }
 
 -- the keys of a batch are of its node
 same_node : (node start serial : ℕ) (bytes : List ℕ) → EachOf (λ (k : Key). k.node ≡ node) (keys_from node start serial bytes)
@@ -152,49 +142,30 @@ typed_by typed node start first byte bytes known = record {
   known = λ k among. each_of (Contains typed) (keys_of (Keys node start first (byte ∷ bytes))) k known among;
 }
 
--- ---- what nodes may propose, and what is chosen
+-- ---- what nodes may propose
 
--- a message that does not propose at this place under this ballot
-abbrev pub is_other : Ballot → ℕ → Msg → Bool
-is_other b s m = elim m.body [ Accept c q v ↦ not (c.round == b.round && q == s) | _ ↦ true ]
+-- a message that proposes at this place under a ballot of this round
+abbrev pub proposes_at : Ballot → ℕ → Msg → Bool
+proposes_at b s m = elim m.body [ Accept c q v ↦ c.round == b.round && q == s | _ ↦ false ]
 
-pub unproposed : (sent : Sent) (b : Ballot) (s : ℕ) → list_all (is_other b s) sent ≡ true → IsUnproposed sent b s
-unproposed sent b s others v (i, among) =
-    let (k, below, at) = among in
-    let is : is_other b s (get_or sent k (record { sender = i; body = Accept b s v })) ≡ false =
-    rw (at, eq-eqb b.round b.round refl, eq-eqb s s refl) refl in
-    let found = list_all_at (is_other b s) sent k _ below is in
-    absurd cc
+pub unproposed : (sent : Sent) (b : Ballot) (s : ℕ) → list_any (proposes_at b s) sent ≡ false → IsUnproposed sent b s
+unproposed sent b s none v (i, (k, below, at)) = grind (arith, nat_tests, list_any_at, eq-eqb)
 
--- a promise that reports this for a place
-pub promised : {sent : Sent} {i : ℕ} {b : Ballot} {s : ℕ} {o : Option Vote} (first upto : ℕ) (reports : List Vote)
-    → IsSent sent i (Promise b first upto reports) → first ≤ s → s < upto → kept_vote_at reports s ≡ o → IsPromised sent i b s o
-promised first upto reports among low high is = record {
-  first = first;
-  upto = upto;
-  votes = reports;
-  is_sent = among;
-  from_first = low;
-  below_upto = high;
-  reports = is;
-}
+-- a promise that reports on a place
+pub promised : {sent : Sent} {i : ℕ} {b : Ballot} {s first upto : ℕ} {reports : List Vote}
+    → IsSent sent i (Promise b first upto reports) → first ≤ s → s < upto → IsPromised sent i b s (kept_vote_at reports s)
+promised among low high = grind (arith, nat_tests)
 
--- two nodes have voted for it, and are a majority
-pub chosen_by : (sent : Sent) (b : Ballot) (s : ℕ) (v : Value) (size i j : ℕ) → IsMajority size (is_listed (i ∷ j ∷ []))
-    → IsSent sent i (Accepted b s v) → IsSent sent j (Accepted b s v) → IsChosenBy size sent b s v
-chosen_by sent b s v size i j most first second =
-    (is_listed (i ∷ j ∷ []), most, both (λ k. IsSent sent k (Accepted b s v)) i j first second)
-
--- they have promised, and report no vote
-pub safe_by : {sent : Sent} {b : Ballot} {s : ℕ} {v : Value} (size i j : ℕ) → IsMajority size (is_listed (i ∷ j ∷ []))
-    → IsPromised sent i b s None → IsPromised sent j b s None → IsSaid sent (Submit v) → IsSafe size sent b s v
-safe_by {sent} {b} {s} {v} size i j most first second submitted = record {
-  members = is_listed (i ∷ j ∷ []);
-  reported = λ k. None;
+-- a majority has promised, and reports no vote
+pub safe_at_first : {size : ℕ} {sent : Sent} {b : Ballot} {s : ℕ} {v : Value} (nodes : List ℕ) → IsMajority size (is_listed nodes)
+    → EachOf (λ i. IsPromised sent i b s None) nodes → IsSaid sent (Submit v) → IsSafe size sent b s v
+safe_at_first {sent = sent} {b} {s} nodes most each submitted = record {
+  members = is_listed nodes;
+  reported = λ i. None;
   best = None;
   majority = most;
-  promised = both (λ k. IsPromised sent k b s None) i j first second;
-  is_best = λ k is. refl;
+  promised = at_listed (λ i. IsPromised sent i b s None) nodes each;
+  is_best = λ i is. refl;
   value = inr submitted;
 }
 
@@ -238,7 +209,7 @@ module _ {w : WorldState} (i : ℕ) where
         down,
         refl,
         inl (record {
-          left = left_by w i (Some change.Start) [] (fresh w.program) [];
+          left = seat_by w i _;
           rest = rest_by w i (Some change.Start) [] (fresh w.program) [];
         }),
       ),
@@ -298,46 +269,33 @@ module _ {w : WorldState} (i : ℕ) where
     -- it votes for what was proposed
     pub votes : (k sender : ℕ) (b : Ballot) (s : ℕ) (v : Value)
         → slice_get w.sent k ≡ Some (record { sender = sender; body = Accept b s v })
-        → IfSome (w.seats i).kept.promised (λ p. IsAtMost p b)
+        → (w.seats i).kept.promised ≡ Some b
         → kept_vote_at (with_vote (w.seats i).kept.votes (record { place = s; ballot = b; value = v })) s
         ≡ Some (record { place = s; ballot = b; value = v })
         → Steps w (act.Deliver k i) (with_call w i (Some (change.Ballotted s b v)) (Accepted b s v ∷ []) (still was) [])
-    votes k sender b s v at high kept =
+    votes k sender b s v at promised kept =
         let said : IsSaid w.sent (Accept b s v) = (sender, in_from_place w.sent k _ at) in
-        hears k _ (Some (change.Ballotted s b v)) (Accepted b s v ∷ []) at (inr refl) (said, high) ((said, kept, refl), tt)
+        hears k _ (Some (change.Ballotted s b v)) (Accepted b s v ∷ []) at (inr refl) (said, rw promised (inr (refl, omega arith)))
+        ((said, kept, refl), tt)
 
     -- it proposes what is safe, when it hears a message that causes no save
     pub proposes : (k : ℕ) (m : Msg) (b : Ballot) (s : ℕ) (v : Value) → slice_get w.sent k ≡ Some m → MayCause m.body None → b.node ≡ i
-        → list_all (is_other b s) w.sent ≡ true → IsSafe w.size w.sent b s v
+        → list_any (proposes_at b s) w.sent ≡ false → IsSafe w.size w.sent b s v
         → Steps w (act.Deliver k i) (with_call w i None (Accept b s v ∷ []) (still was) [])
-    proposes k m b s v at cause own others safe =
-        hears k m None (Accept b s v ∷ []) at cause tt ((own, inr (unproposed w.sent b s others, safe)), tt)
+    proposes k m b s v at cause own none safe =
+        hears k m None (Accept b s v ∷ []) at cause tt ((own, inr (unproposed w.sent b s none, safe)), tt)
 
-    -- it learns what two nodes, a majority, have accepted
+    -- it learns what a majority has accepted, one after the other, from message n on
     pub learns : (k sender : ℕ) (b : Ballot) (s : ℕ) (v : Value)
-        → slice_get w.sent k ≡ Some (record { sender = sender; body = Accepted b s v }) → get was.learned s ≡ None → (j q : ℕ)
-        → IsMajority w.size (is_listed (j ∷ q ∷ [])) → IsSent w.sent j (Accepted b s v) → IsSent w.sent q (Accepted b s v)
+        → slice_get w.sent k ≡ Some (record { sender = sender; body = Accepted b s v }) → get was.learned s ≡ None
+        → (nodes : List ℕ) (n : ℕ) → IsMajority w.size (is_listed nodes)
+        → take (length nodes) (drop n w.sent) ≡ votes_of nodes b s v
         → Steps w (act.Deliver k i) (with_call w i None [] (knowing was s v) [])
-    learns k sender b s v at none j q most first second =
-        let chosen : IsChosen w.size w.sent s v = (b, chosen_by w.sent b s v w.size j q most first second) in
+    learns k sender b s v at none nodes n most voted =
+        let chosen : IsChosen w.size w.sent s v = (b, chosen_by w.sent nodes n most voted) in
         let call = makes_call w i None [] (knowing was s v) [] was up tt tt (learns_at w was s v none chosen) in record {
           by = (deed.Hear _, (_, at, refl), record { is_sent = in_from_place w.sent k _ at; saved = None; cause = refl; call = call });
         }
-
--- ---- a change of a seat
-
-module _ (w : WorldState) (i : ℕ) (seat : Seat) where
-  seat_by : (with_seat w i seat).seats i ≡ seat
-  seat_by = rw (eq-eqb i i refl) refl
-
-  rest_seat : ChangesOnly w (with_seat w i seat) i [] []
-  rest_seat = record {
-    program = refl;
-    size = refl;
-    others = λ j other. rw (ne_eqb j i other) refl;
-    sent = sym (append-nil w.sent);
-    typed = sym (append-nil w.typed);
-  }
 
 -- ---- runs, releases and crashes
 

@@ -1,8 +1,8 @@
 -- A group after each event, by its node after it.
-use Rattle.std.proofs.lemmas.Option.{none-some, get_or_from_slice_get}
+use Rattle.std.proofs.lemmas.Option.{get_or_from_slice_get}
 use Rattle.std.proofs.lemmas.List.{append-nil}
-use Rattle.std.proofs.Common.{◌≡◌, ◌∙◌, ℕ, zero, suc, ◌-◌, ◌<◌, nat_lt, All, Bool, true, false, if◌then◌else◌, List, [], ◌∷◌, ◌++◌, get_or, length, slice_get, slice_set, is_some, Option, None, Some, Result, Ok, Err, IfOk, OnErr, OnOk, refl, sym, ap, subst, arith}
-use Rattle.std.specs.List.{cons_option}
+use Rattle.std.proofs.Common.{◌≡◌, ◌∙◌, ℕ, zero, suc, ◌-◌, ◌<◌, nat_lt, All, Bool, true, if◌then◌else◌, List, [], ◌∷◌, ◌++◌, get_or, length, slice_get, slice_set, is_some, Option, None, Some, Result, Ok, Err, IfOk, OnErr, OnOk, refl, sym, ap, subst, arith}
+use Rattle.std.proofs.lemmas.Bool.Decides.{nat_tests}
 use Rattle.std.proofs.lemmas.Bool.{ltb-true}
 use Rattle.std.proofs.lemmas.Result.{IfOk-weaker, on_err_weaker}
 use Rattle.std.proofs.lemmas.List.Elements.{All-head, All-tail}
@@ -26,7 +26,7 @@ use Rattle.group_world.specs.declared.member.Ask.{Ask}
 use Rattle.group_world.specs.declared.member.Ask.TheVariants.{Campaign, Hear, Tick}
 use Rattle.group_world.specs.Deeds.{DoesDeed, EndsCall, Left, quietly}
 use Rattle.group_world.specs.Event.{DoesAt, node_of}
-use Rattle.group_world.specs.Group.{HasUp, me_of, member_at, message_of, messages_in, World}
+use Rattle.group_world.specs.Group.{HasUp, me_of, member_at, messages_in, World}
 use Rattle.group_world.specs.Member.{NodeCall, call_of_ask, call_of_press, call_outcome, CallEnds, Member, Running, RunsMember, deed_of_ask, member_after_release}
 use Rattle.group_world.specs.Refusals.{refusal, refusal_at, refusal_of, unless_up}
 use Rattle.group_world.specs.Sound.{IsSound, IsSpelling}
@@ -35,10 +35,6 @@ use Rattle.group_world.proofs.SoundWorldsAgree.{next_of}
 use Rattle.group_world.proofs.WorldAsGroup.{running}
 
 -- ---- a node of the code's group `w`, which contracts see as `was` and which a call lends out
-
--- a node that is up has a number
-pub above : {was : World} {i : ℕ} → HasUp was i → 0 < i
-above {was} {i} (m, q, up) = (is_at was.members i m up.there).0
 
 -- the world in which the node at the index `place` is `new`, and this was sent and typed
 abbrev pub parts : World → ℕ → Member → List Datagram → List Value → World
@@ -72,9 +68,7 @@ module _ {w was : World} (is : w ≡ was) (i : ℕ) {place : ℕ} {lent : Member
         (plan : Option Bool) (call : Me → Record → NodeCall) → me ≡ me_of was i
         → CallEnds me lent progress (call_outcome plan lent.kept (call me lent.kept)) d new packets keys
         → CallEnds (me_of was i) m progress (call_outcome plan m.kept (call (me_of was i) m.kept)) d new packets keys
-    call_so {new} {me} {progress} {d} {packets} {keys} plan call me_is ends =
-        subst (λ x. CallEnds x m progress (call_outcome plan m.kept (call x m.kept)) d new packets keys) me_is
-        (subst (λ (x : Member). CallEnds me x progress (call_outcome plan x.kept (call me x.kept)) d new packets keys) lent_is ends)
+    call_so plan call me_is ends = rw (me_is, lent_is) at ends
 
     -- a deed of the lent node
     pub does_so : {sent : List Datagram} {typed : List Value} (plan : Option Bool) (deed : Deed) (d : Done) (new : Member)
@@ -157,8 +151,7 @@ module _ {w was : World} (is : w ≡ was) (i : ℕ) {place : ℕ} {lent : Member
         → IfOk r (λ d. DoesAt was i plan deed.Release d (parts w place new w.sent w.typed))
     releases_so new (Ok d) plan ok done =
         let (m, q, up) = has in
-        subst (λ (x : Done). DoesAt was i plan deed.Release x (parts w place new w.sent w.typed)) (sym done)
-        (quiet_so up.there plan deed.Release new
+        rw done (quiet_so up.there plan deed.Release new
         (q, up.up, ap quietly (ok q lent_up ∙ ap (λ (x : Member). member_after_release x q (next_of q)) (lent_is up.there))))
     releases_so new (Err e) plan ok done = tt
 
@@ -177,13 +170,11 @@ at_number : (group : Group) (sent : List Datagram) (k : ℕ) (x : Datagram) → 
     → (s : IsSpelling group x) × (slice_get (messages_in group sent) k ≡ Some s.message)
 at_number group [] k x all less e = absurd (omega (arith, less))
 at_number group (y ∷ ys) zero x all less e =
-    let first = All-head (IsSpelling group) y ys all in
-    let s = subst (IsSpelling group) (sym e) first in
-    (s, ap (λ o. slice_get (cons_option o (messages_in group ys)) 0) (ap (message_of group) (sym e) ∙ s.read))
+    let first = All-head (IsSpelling group) y ys all in rw e (first, rw first.read refl)
 at_number group (y ∷ ys) (suc k) x all less e =
     let first = All-head (IsSpelling group) y ys all in
     let rest = at_number group ys k x (All-tail (IsSpelling group) y ys all) (omega (arith, less)) e in
-    (rest.0, ap (λ o. slice_get (cons_option o (messages_in group ys)) (suc k)) first.read ∙ rest.1)
+    (rest.0, rw first.read rest.1)
 
 -- a delivered message fits its node, and has its datagram's number
 pub delivered : {w was : World} {k : ℕ} {x : Datagram} {bytes : List ℕ} {view : Msg} → w ≡ was → IsSound was → k < length was.sent
@@ -203,8 +194,7 @@ delivered {was = was} {k} {x} {view = view} is sound less number same only =
 found_at : (w : World) (i : ℕ) (o : Option Member) (r : Option Member → Option WorldFault) → member_at w.members i ≡ o
     → r None ≡ Some NoNode → r o ≡ None
     → (m : Member) × (member_at w.members i ≡ Some m) × (r (Some m) ≡ None)
-found_at w i None r e empty none = absurd (none-some NoNode (sym none ∙ empty))
-found_at w i (Some m) r e empty none = (m, e, none)
+found_at w i o r e empty none = grind (arith, nat_tests)
 
 up_by : (m : Member) (o : Option Running) → m.node ≡ o
     → ◌≡◌ {A = Option WorldFault} (if is_some o then None else Some NodeDown) None → (q : Running) × (m.node ≡ Some q)
@@ -220,8 +210,7 @@ found_up w {said} is at none =
     (there.0, up.0, record { there = there.1; up = up.1 })
 
 sent_when : (b : Bool) (o : Option WorldFault) → (if b then o else Some NoMessage) ≡ None → (b ≡ true) × (o ≡ None)
-sent_when true o none = (refl, none)
-sent_when false o none = absurd cc
+sent_when b o none = grind (arith, nat_tests)
 
 -- a delivery
 pub found_sent : (w : World) {k i : ℕ} {a : Act} → a ≡ act.Deliver k i → refusal w a ≡ None → (k < length w.sent) × HasUp w i

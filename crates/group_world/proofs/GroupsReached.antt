@@ -1,8 +1,8 @@
 -- Groups that steps lead to: two nodes of three learn one value for a place, and show its echo; a
 -- second ballot takes over a vote of the first; keys of two starts of one node are chosen; a node
 -- that starts again releases a byte again.
-use Rattle.std.proofs.lemmas.Bool.{eq-eqb, cases_eq, ne_eqb}
-use Rattle.std.proofs.Common.{◌==◌, ◌≡◌, ◌<◌, ℕ, suc, if◌then◌else◌, List, [], ◌∷◌, drop, take, Option, IfSome, Some, None, inl, inr, refl, arith, lit<, ◌++◌, ◌≢◌, ◌∙◌, zero, slice_get, subst}
+use Rattle.std.proofs.lemmas.Bool.Decides.{nat_tests}
+use Rattle.std.proofs.Common.{length, ◌==◌, ◌≡◌, ℕ, suc, if◌then◌else◌, [], ◌∷◌, drop, take, Option, IfSome, Some, None, inl, inr, refl, arith, lit<, ◌++◌, ◌∙◌}
 use Rattle.std.specs.Ordering.{nat_cmp}
 use Rattle.std.specs.FinMap.{empty, get-empty, insert, get}
 use Rattle.pcode_file.specs.Parts.{Parts}
@@ -11,23 +11,21 @@ use Rattle.paxos_msg.specs.declared.message.Body.TheVariants.{Promise, Accepted,
 use Rattle.paxos_msg.specs.declared.record.Change.TheVariants as change
 use Rattle.paxos_msg.specs.Ballots.{IsAtMost}
 use Rattle.paxos_msg.specs.Batches.{IsSafe, Sent, Vote}
-use Rattle.paxos_msg.specs.Chosen.{is_listed, IsChosenBy, IsChosen}
+use Rattle.paxos_msg.specs.Chosen.{is_listed, IsChosenBy}
 use Rattle.paxos_msg.specs.Messages.{IsSent, IsPromised}
 use Rattle.paxos_learner.proofs.OnePlace.{get_here, get_put}
 use Rattle.group_world.specs.Headline.{HasLearned}
 use Rattle.group_node.specs.World.{Up, WorldState, fresh, WorldStep, after_release, with_seat}
 use Rattle.group_node.specs.WrongSteps.{ballot_by}
 use Rattle.group_world.specs.RightGroups.{LeadsInSteps, first_batch, takeover_acts, three_new, two_learn_acts, two_show_acts, one_new, second_batch, two_starts_acts, restart_acts}
-use Rattle.group_world.proofs.ChainedSteps.{◌▸◌, Reaches, and_then, ballot_1, both, campaigns, chosen_by, hears, key_1, knowing, learns, presses, promised, proposes, report, safe_by, starts, stop, ticks, typed_by, typing, votes, StepLaw, releases, runs, crashes, released}
+use Rattle.group_world.proofs.ChainedSteps.{◌▸◌, Reaches, and_then, ballot_1, campaigns, hears, key_1, knowing, learns, presses, proposes, report, starts, stop, ticks, typed_by, typing, votes, StepLaw, releases, runs, crashes, released, promised, safe_at_first}
+use Rattle.group_world.proofs.WrittenVotes.{are_chosen, at_listed, chosen_by, has_learned}
+use Rattle.std.proofs.lemmas.Bool.{eq-eqb}
 use Rattle.pcode_machine.specs.Configuration.{Configuration}
 use Rattle.pcode_machine.specs.Runs.{after_steps}
 use Rattle.paxos_learner.specs.Input.{learned_input, keys_in_order}
-use Rattle.group_protocol.proofs.Elements.{entries_one}
 use Rattle.group_world.specs.Witness.{echoes, letter_program}
-use Rattle.group_world.proofs.SmallPrograms.{WritesLetter, echoes_letter, first_byte, line, writes_letter}
-use Rattle.std.proofs.lemmas.Option.{same_Some}
-use Rattle.std.specs.List.{range_with_len}
-use Rattle.paxos_msg.specs.declared.value.Value.{Value}
+use Rattle.group_world.proofs.SmallPrograms.{WritesLetter, echoes_first, first_byte, writes_letter}
 use Rattle.paxos_msg.specs.Keys.{Key}
 use Rattle.group_node.specs.Inputs.{AreChosen}
 use Rattle.group_world.specs.Order.{AreInOrder, serials_of}
@@ -37,56 +35,49 @@ use Rattle.group_node.specs.Deeds as deed
 
 -- ---- two nodes learn a value
 
-module _ (p : Parts) (place : ℕ) where
-  -- node 1, at which the key waits
-  abbrev waits : Up
-  waits = typing (fresh p) (key_1 ∷ [])
+-- node 1, at which the key waits
+abbrev waits : Parts → Up
+waits p = typing (fresh p) (key_1 ∷ [])
 
+module _ (p : Parts) (place : ℕ) where
   -- both start, the key is typed, both promise, and node 1 proposes
   abbrev first_8 : Reaches (three_new p) (take 8 two_learn_acts)
   first_8 =
       starts 1 refl
       ▸ starts 2 refl
       ▸ presses 1 (fresh p) refl key_1 refl refl
-      ▸ campaigns 1 waits refl 1 place tt
-      ▸ hears 1 waits refl 0 _ None (Promise ballot_1 place (suc place) [] ∷ []) refl (inl refl) tt ((refl, report _ [] _ _ refl tt), tt)
+      ▸ campaigns 1 (waits p) refl 1 place tt
+      ▸ hears 1 (waits p) refl 0 _ None (Promise ballot_1 place (suc place) [] ∷ []) refl (inl refl) tt ((refl, report _ _ _ tt), tt)
       ▸ hears 2 (fresh p) refl 0 _ (Some (change.Promise ballot_1)) (Promise ballot_1 place (suc place) [] ∷ []) refl (inr refl) tt
-      ((refl, report _ [] _ _ refl tt), tt)
-      ▸ ticks 1 waits refl (Submit first_batch ∷ []) (typed_by _ 1 1 1 65 [] ((0, lit< tt, refl), tt), tt)
-      ▸ proposes 1 waits refl 3 _ ballot_1 place first_batch refl refl refl refl (safe_by 3 1 2 (lit< tt)
-      (promised place (suc place) [] (1, lit< tt, refl) (omega arith) (omega arith) refl)
-      (promised place (suc place) [] (2, lit< tt, refl) (omega arith) (omega arith) refl) (1, (3, lit< tt, refl)))
+      ((refl, report _ _ _ tt), tt)
+      ▸ ticks 1 (waits p) refl (Submit first_batch ∷ []) (typed_by _ 1 1 1 65 [] ((0, lit< tt, refl), tt), tt)
+      ▸ proposes 1 (waits p) refl 3 _ ballot_1 place first_batch refl refl refl refl (safe_at_first (1 ∷ 2 ∷ []) (lit< tt)
+      (promised (1, lit< tt, refl) (omega arith) (omega arith), (promised (2, lit< tt, refl) (omega arith) (omega arith), tt))
+      (1, (3, lit< tt, refl)))
       ▸ stop
 
   -- both vote, and hear of it
-  abbrev pub last_4 : Reaches first_8.end (drop 8 two_learn_acts)
+  abbrev last_4 : Reaches first_8.end (drop 8 two_learn_acts)
   last_4 =
-      votes 1 waits refl 4 1 ballot_1 place first_batch refl (inr (refl, omega arith)) (rw (eq-eqb place place refl) refl)
-      ▸ votes 2 (fresh p) refl 4 1 ballot_1 place first_batch refl (inr (refl, omega arith)) (rw (eq-eqb place place refl) refl)
-      ▸ learns 1 waits refl 6 2 ballot_1 place first_batch refl (get-empty nat_cmp place) 1 2 (lit< tt)
-      (5, lit< tt, refl) (6, lit< tt, refl)
-      ▸ learns 2 (fresh p) refl 6 2 ballot_1 place first_batch refl (get-empty nat_cmp place) 1 2 (lit< tt)
-      (5, lit< tt, refl) (6, lit< tt, refl)
+      votes 1 (waits p) refl 4 1 ballot_1 place first_batch refl refl (rw (eq-eqb place place refl) refl)
+      ▸ votes 2 (fresh p) refl 4 1 ballot_1 place first_batch refl refl (rw (eq-eqb place place refl) refl)
+      ▸ learns 1 (waits p) refl 6 2 ballot_1 place first_batch refl (get-empty nat_cmp place) (1 ∷ 2 ∷ []) 5 (lit< tt) refl
+      ▸ learns 2 (fresh p) refl 6 2 ballot_1 place first_batch refl (get-empty nat_cmp place) (1 ∷ 2 ∷ []) 5 (lit< tt) refl
       ▸ stop
 
-  abbrev pub both_learn : Reaches (three_new p) two_learn_acts
+  abbrev both_learn : Reaches (three_new p) two_learn_acts
   both_learn = and_then first_8 last_4
 
   -- what both know then
-  abbrev pub knows_1 : Up
-  knows_1 = knowing waits place first_batch
+  abbrev knows_1 : Up
+  knows_1 = knowing (waits p) place first_batch
 
-  abbrev pub knows_2 : Up
+  abbrev knows_2 : Up
   knows_2 = knowing (fresh p) place first_batch
 
 pub two_learn : (p : Parts) (place : ℕ) → (w : WorldState) × LeadsInSteps (three_new p) two_learn_acts w
     × HasLearned w 1 place first_batch × HasLearned w 2 place first_batch
-two_learn p place = (
-  (both_learn p place).end,
-  (both_learn p place).leads,
-  record { node = knows_1 p place; up = refl; learned = get_here empty place first_batch },
-  record { node = knows_2 p place; up = refl; learned = get_here empty place first_batch },
-)
+two_learn p place = (_, (both_learn p place).leads, has_learned _ refl refl, has_learned _ refl refl)
 
 -- ---- a second ballot
 
@@ -107,12 +98,13 @@ safe_again sent second third = record {
   reported = reports_2;
   best = Some vote_1;
   majority = lit< tt;
-  promised = both (λ i. IsPromised sent i ballot_2 700 (reports_2 i)) 2 3 second third;
+  promised = at_listed (λ i. IsPromised sent i ballot_2 700 (reports_2 i)) (2 ∷ 3 ∷ []) (second, (third, tt));
   is_best = record {
     reporter = 2;
     is_member = refl;
     reports = refl;
-    greatest = both (λ i. IfSome (reports_2 i) (λ other. IsAtMost other.ballot ballot_1)) 2 3 (inr (refl, omega arith)) tt;
+    greatest = at_listed (λ i. IfSome (reports_2 i) (λ other. IsAtMost other.ballot ballot_1)) (2 ∷ 3 ∷ [])
+        (inr (refl, omega arith), (tt, tt));
   };
   value = refl;
 }
@@ -120,19 +112,17 @@ safe_again sent second third = record {
 module _ (p : Parts) where
   abbrev taken_over : Reaches (first_8 p 700).end (drop 8 takeover_acts)
   taken_over =
-      votes 2 (fresh p) refl 4 1 ballot_1 700 first_batch refl (inr (refl, omega arith)) refl
+      votes 2 (fresh p) refl 4 1 ballot_1 700 first_batch refl refl refl
       ▸ starts 3 refl
       ▸ campaigns 3 (fresh p) refl 2 700 tt
-      ▸ hears 3 (fresh p) refl 6 _ None (Promise ballot_2 700 701 [] ∷ []) refl (inl refl) tt ((refl, report _ [] _ _ refl tt), tt)
+      ▸ hears 3 (fresh p) refl 6 _ None (Promise ballot_2 700 701 [] ∷ []) refl (inl refl) tt ((refl, report _ _ _ tt), tt)
       ▸ hears 2 (fresh p) refl 6 _ (Some (change.Promise ballot_2)) (Promise ballot_2 700 701 (vote_1 ∷ []) ∷ []) refl (inr refl)
-      (inl (omega arith)) ((refl, report _ (vote_1 ∷ []) _ _ refl ((omega arith, omega arith), tt)), tt)
+      (inl (omega arith)) ((refl, report _ _ _ ((omega arith, omega arith), tt)), tt)
       ▸ proposes 3 (fresh p) refl 8 _ ballot_2 700 first_batch refl refl refl refl (safe_again _
-      (promised 700 701 (vote_1 ∷ []) (8, lit< tt, refl) (omega arith) (omega arith) refl)
-      (promised 700 701 [] (7, lit< tt, refl) (omega arith) (omega arith) refl))
-      ▸ votes 3 (fresh p) refl 9 3 ballot_2 700 first_batch refl (inr (refl, omega arith)) refl
-      ▸ votes 2 (fresh p) refl 9 3 ballot_2 700 first_batch refl (inr (refl, omega arith)) refl
-      ▸ learns 3 (fresh p) refl 11 2 ballot_2 700 first_batch refl (get-empty nat_cmp 700) 2 3 (lit< tt)
-      (11, lit< tt, refl) (10, lit< tt, refl)
+      (promised (8, lit< tt, refl) (omega arith) (omega arith)) (promised (7, lit< tt, refl) (omega arith) (omega arith)))
+      ▸ votes 3 (fresh p) refl 9 3 ballot_2 700 first_batch refl refl refl
+      ▸ votes 2 (fresh p) refl 9 3 ballot_2 700 first_batch refl refl refl
+      ▸ learns 3 (fresh p) refl 11 2 ballot_2 700 first_batch refl (get-empty nat_cmp 700) (3 ∷ 2 ∷ []) 10 (lit< tt) refl
       ▸ stop
 
   abbrev second_ballot : Reaches (three_new p) takeover_acts
@@ -141,22 +131,11 @@ module _ (p : Parts) where
 pub takeover : (p : Parts) → (w : WorldState) × LeadsInSteps (three_new p) takeover_acts w
     × IsSent w.sent 2 (Accepted (ballot_by 1 1) 700 first_batch) × IsChosenBy 3 w.sent (ballot_by 3 2) 700 first_batch
     × HasLearned w 3 700 first_batch
-takeover p = (
-  (second_ballot p).end,
-  (second_ballot p).leads,
-  (5, lit< tt, refl),
-  chosen_by (second_ballot p).end.sent ballot_2 700 first_batch 3 2 3 (lit< tt) (11, lit< tt, refl) (10, lit< tt, refl),
-  record { node = knows_2 p 700; up = refl; learned = get_here empty 700 first_batch },
-)
+takeover p =
+    let run = second_ballot p in
+    (_, run.leads, (5, lit< tt, refl), chosen_by run.end.sent (3 ∷ 2 ∷ []) 10 (lit< tt) refl, has_learned _ refl refl)
 
 -- ---- two nodes show the echo
-
--- the input that both have learned
-input_is : learned_input (insert empty 0 first_batch) ≡ line
-input_is = rw (entries_one 0 first_batch, get_here empty 0 first_batch) refl
-
-writes : WritesLetter echoes (learned_input (insert empty 0 first_batch))
-writes = rw input_is echoes_letter
 
 -- the machine after ten steps
 abbrev ten : Configuration
@@ -173,10 +152,10 @@ ran_2 = record (knows_2 echoes 0) { configuration = ten }
 abbrev both_show : StepLaw → Reaches (three_new echoes) (two_learn_acts ++ two_show_acts)
 both_show law =
     and_then (both_learn echoes 0) (
-    runs 1 (knows_1 echoes 0) refl law echoes 10 refl refl writes.goes
-    ▸ releases 1 ran_1 refl 65 (first_byte writes)
-    ▸ runs 2 (knows_2 echoes 0) refl law echoes 10 refl refl writes.goes
-    ▸ releases 2 ran_2 refl 65 (first_byte writes)
+    runs 1 (knows_1 echoes 0) refl law echoes 10 refl refl (echoes_first 1 1).goes
+    ▸ releases 1 ran_1 refl 65 (first_byte (echoes_first 1 1))
+    ▸ runs 2 (knows_2 echoes 0) refl law echoes 10 refl refl (echoes_first 1 1).goes
+    ▸ releases 2 ran_2 refl 65 (first_byte (echoes_first 1 1))
     ▸ stop
     )
 
@@ -184,19 +163,11 @@ pub two_show : StepLaw → (w : WorldState)
     × LeadsInSteps (three_new echoes) (two_learn_acts ++ two_show_acts) w
     × HasLearned w 1 0 first_batch × HasLearned w 2 0 first_batch
     × ((w.seats 1).console ≡ 65 ∷ []) × ((w.seats 2).console ≡ 65 ∷ [])
-two_show law = (
-  (both_show law).end,
-  (both_show law).leads,
-  record { node = record ran_1 { released = 1 }; up = refl; learned = get_here empty 0 first_batch },
-  record { node = record ran_2 { released = 1 }; up = refl; learned = get_here empty 0 first_batch },
-  refl,
-  refl,
-)
+two_show law = (_, (both_show law).leads, has_learned _ refl refl, has_learned _ refl refl, refl, refl)
 
 -- ---- two starts of a node alone
 
--- ---- what the node says in its second start
-
+-- what the node says in its second start
 abbrev later_ballot : Ballot
 later_ballot = ballot_by 1 2
 
@@ -206,16 +177,8 @@ key_2 = record { node = 1; start = 2; serial = 1; byte = 66 }
 abbrev first_vote : Vote
 first_vote = record { place = 0; ballot = ballot_1; value = first_batch }
 
-chosen_alone : (sent : Sent) (b : Ballot) (s : ℕ) (v : Value) → IsSent sent 1 (Accepted b s v) → IsChosen 1 sent s v
-chosen_alone sent b s v said = (b, chosen_by sent b s v 1 1 1 (lit< tt) said said)
-
--- ---- the node, and its group
-
 module _ (p : Parts) where
-  -- it waits for a key of its first start, and of its second
-  abbrev up_1 : Up
-  up_1 = typing (fresh p) (key_1 ∷ [])
-
+  -- a key of its second start waits
   abbrev up_2 : Up
   up_2 = typing (fresh p) (key_2 ∷ [])
 
@@ -233,56 +196,30 @@ module _ (p : Parts) where
   starts_twice =
       starts 1 refl
       ▸ presses 1 (fresh p) refl key_1 refl refl
-      ▸ campaigns 1 up_1 refl 1 0 tt
-      ▸ hears 1 up_1 refl 0 _ None (Promise ballot_1 0 1 [] ∷ []) refl (inl refl) tt ((refl, report _ [] _ _ refl tt), tt)
-      ▸ ticks 1 up_1 refl (Submit first_batch ∷ []) (typed_by _ 1 1 1 65 [] ((0, lit< tt, refl), tt), tt)
-      ▸ proposes 1 up_1 refl 2 _ ballot_1 0 first_batch refl refl refl refl (safe_by 1 1 1 (lit< tt)
-      (promised 0 1 [] (1, lit< tt, refl) (omega arith) (omega arith) refl)
-      (promised 0 1 [] (1, lit< tt, refl) (omega arith) (omega arith) refl) (1, (2, lit< tt, refl)))
-      ▸ votes 1 up_1 refl 3 1 ballot_1 0 first_batch refl (inr (refl, omega arith)) refl
+      ▸ campaigns 1 (waits p) refl 1 0 tt
+      ▸ hears 1 (waits p) refl 0 _ None (Promise ballot_1 0 1 [] ∷ []) refl (inl refl) tt ((refl, report _ _ _ tt), tt)
+      ▸ ticks 1 (waits p) refl (Submit first_batch ∷ []) (typed_by _ 1 1 1 65 [] ((0, lit< tt, refl), tt), tt)
+      ▸ proposes 1 (waits p) refl 2 _ ballot_1 0 first_batch refl refl refl refl (safe_at_first (1 ∷ []) (lit< tt)
+      (promised (1, lit< tt, refl) (omega arith) (omega arith), tt) (1, (2, lit< tt, refl)))
+      ▸ votes 1 (waits p) refl 3 1 ballot_1 0 first_batch refl refl refl
       ▸ crashes 1
       ▸ starts 1 refl
       ▸ presses 1 (fresh p) refl key_2 refl refl
       ▸ campaigns 1 up_2 refl 2 0 (inl (omega arith))
       ▸ hears 1 up_2 refl 5 _ None (Promise later_ballot 0 2 (first_vote ∷ []) ∷ []) refl (inl refl) tt
-      ((refl, report _ (first_vote ∷ []) _ _ refl ((omega arith, omega arith), tt)), tt)
+      ((refl, report _ _ _ ((omega arith, omega arith), tt)), tt)
       ▸ ticks 1 up_2 refl (Submit second_batch ∷ []) (typed_by _ 1 2 1 66 [] ((1, lit< tt, refl), tt), tt)
-      ▸ proposes 1 up_2 refl 7 _ later_ballot 1 second_batch refl refl refl refl (safe_by 1 1 1 (lit< tt)
-      (promised 0 2 (first_vote ∷ []) (6, lit< tt, refl) (omega arith) (omega arith) refl)
-      (promised 0 2 (first_vote ∷ []) (6, lit< tt, refl) (omega arith) (omega arith) refl) (1, (7, lit< tt, refl)))
-      ▸ votes 1 up_2 refl 8 1 later_ballot 1 second_batch refl (inr (refl, omega arith)) refl
-      ▸ learns 1 up_2 refl 4 1 ballot_1 0 first_batch refl (get-empty nat_cmp 0) 1 1 (lit< tt) (4, lit< tt, refl) (4, lit< tt, refl)
-      ▸ learns 1 knows_first refl 9 1 later_ballot 1 second_batch refl none_at_1 1 1 (lit< tt) (9, lit< tt, refl) (9, lit< tt, refl)
+      ▸ proposes 1 up_2 refl 7 _ later_ballot 1 second_batch refl refl refl refl (safe_at_first (1 ∷ []) (lit< tt)
+      (promised (6, lit< tt, refl) (omega arith) (omega arith), tt) (1, (7, lit< tt, refl)))
+      ▸ votes 1 up_2 refl 8 1 later_ballot 1 second_batch refl refl refl
+      ▸ learns 1 up_2 refl 4 1 ballot_1 0 first_batch refl (get-empty nat_cmp 0) (1 ∷ []) 4 (lit< tt) refl
+      ▸ learns 1 knows_first refl 9 1 later_ballot 1 second_batch refl none_at_1 (1 ∷ []) 9 (lit< tt) refl
       ▸ stop
-
-  abbrev sent : Sent
-  sent = starts_twice.end.sent
-
-  chosen_at : (s : ℕ) (v : Value) → slice_get (first_batch ∷ second_batch ∷ []) s ≡ Some v → IsChosen 1 sent s v
-  chosen_at zero v e = subst (IsChosen 1 sent 0) (same_Some first_batch v e) (chosen_alone sent ballot_1 0 first_batch (4, lit< tt, refl))
-  chosen_at (suc zero) v e =
-      subst (IsChosen 1 sent 1) (same_Some second_batch v e) (chosen_alone sent later_ballot 1 second_batch (9, lit< tt, refl))
-  chosen_at (suc (suc s)) v e = absurd cc
 
 -- ---- the order of its keys
 
-abbrev IsRow : ℕ → ℕ → Type 0
-IsRow node start = (k : ℕ) × (serials_of node start (keys_in_order (first_batch ∷ second_batch ∷ [])) ≡ range_with_len 1 k)
-
-row_of_one : (start : ℕ) → IsRow 1 start
-row_of_one start = elim (cases_eq 1 start) [
-  | inl first ↦ subst (IsRow 1) first (1, refl)
-  | inr not_first ↦ elim (cases_eq 2 start) [
-    | inl second ↦ subst (IsRow 1) second (1, refl)
-    | inr not_second ↦ (0, rw (ne_eqb 1 start not_first, ne_eqb 2 start not_second) refl)
-  ]
-]
-
 in_order : AreInOrder (keys_in_order (first_batch ∷ second_batch ∷ []))
-in_order node start = elim (cases_eq 1 node) [
-  | inl first ↦ subst (λ (n : ℕ). IsRow n start) first (row_of_one start)
-  | inr other ↦ (0, rw (ne_eqb 1 node other) refl)
-]
+in_order node start = (length (serials_of node start (keys_in_order (first_batch ∷ second_batch ∷ []))), grind (arith, nat_tests))
 
 pub two_starts : (p : Parts) → (w : WorldState) × LeadsInSteps (one_new p) two_starts_acts w
     × HasLearned w 1 0 first_batch × HasLearned w 1 1 second_batch
@@ -296,8 +233,11 @@ two_starts p = (
     up = refl;
     learned = get_put (insert empty 0 first_batch) 1 second_batch 0 ∙ get_here empty 0 first_batch;
   },
-  record { node = knows_both p; up = refl; learned = get_here (insert empty 0 first_batch) 1 second_batch },
-  record { chosen = chosen_at p },
+  has_learned _ refl refl,
+  are_chosen (first_batch ∷ second_batch ∷ []) (
+    (ballot_1, chosen_by (starts_twice p).end.sent (1 ∷ []) 4 (lit< tt) refl),
+    ((later_ballot, chosen_by (starts_twice p).end.sent (1 ∷ []) 9 (lit< tt) refl), tt),
+  ),
   in_order,
 )
 

@@ -23,17 +23,16 @@ use Rattle.paxos_msg.specs.declared.value.Value.{Value}
 use Rattle.paxos_msg.specs.Batches.{Grew, Record, Sent, Body, Change}
 use Rattle.paxos_msg.specs.Chosen.{IsChosen}
 use Rattle.group_world.specs.Headline.{LearnedChosen, LearnedStays, ConsolesGrow}
-use Rattle.std.proofs.lemmas.Bool.{cases_eq, eq-eqb, ne_eqb}
+use Rattle.std.proofs.lemmas.Bool.Decides.{nat_tests}
+use Rattle.std.proofs.lemmas.Bool.{cases_eq}
 use Rattle.pcode_machine.specs.Runs.{IsPrefix}
 use Rattle.paxos_msg.specs.declared.record.Change.TheVariants as change
 use Rattle.paxos_msg.specs.Keys.{Key}
 use Rattle.paxos_msg.specs.Messages.{messages_of}
-use Rattle.group_node.specs.Console.{offered}
 use Rattle.group_node.specs.Deeds as deed
 use Rattle.group_node.specs.Deeds.{Deed}
 use Rattle.group_protocol.specs.Packets.{Datagram}
-use Rattle.group_node.specs.World.{CallOrFall, ChangesOnly, Falls, MakesCall, Seat, Up, WorldState, WorldStep, after_release}
-use Rattle.group_world.specs.declared.event.Done.TheVariants.{Applied, Fell, Refused}
+use Rattle.group_node.specs.World.{CallOrFall, ChangesOnly, MakesCall, Seat, Up, WorldState, WorldStep, after_release}
 
 -- the laws of one event
 pub record EventLaws : Type 0 where
@@ -75,9 +74,8 @@ happens_holds laws w (e ∷ events) v h (mid, d, goes, rest) = happens_holds law
 pub always : EventLaws → {P : World → Type 0} → ((w : World) → Holds w → P w) → (p : Parts) (group : Group) (events : List Event)
     (w : World) → IsSize group.size → IsGroup group → LeadsBy (new_world p group) events w → P w
 always laws by p group events w size session happens =
-    let first : Holds (new_world p group) =
-    record { sound = laws.sound_first p group size session; ordered = laws.ordered_first p group } in
-    by w (happens_holds laws _ events w first happens)
+    by w (happens_holds laws _ events w
+    (record { sound = laws.sound_first p group size session; ordered = laws.ordered_first p group }) happens)
 
 -- a list of events after another
 pub happens_then : (w : World) (events more : List Event) (v u : World) → LeadsBy w events v → LeadsBy v more u
@@ -118,24 +116,16 @@ pub record Grows (w v : WorldState) : Type 0 where
 prefix_refl : (a : List ℕ) → IsPrefix a a
 prefix_refl a = record { rest = []; whole = sym (append-nil a) }
 
--- and with what a list begins with that it begins with
-prefix_trans : (a b c : List ℕ) → IsPrefix a b → IsPrefix b c → IsPrefix a c
-prefix_trans a b c h k = grind (arith, common_steps, append_assoc)
-
 pub grows_none : (w v : WorldState) → v ≡ w → Grows w v
-grows_none w v e = record {
-  size = ap (λ (x : WorldState). x.size) e;
-  more = [];
-  sent = ap (λ (x : WorldState). x.sent) e ∙ sym (append-nil w.sent);
-  consoles = λ i. rw e (prefix_refl _);
-}
+grows_none w v e =
+    rw e (record { size = refl; more = []; sent = sym (append-nil w.sent); consoles = λ i. prefix_refl _ })
 
 grows_through : (w v u : WorldState) → Grows w v → Grows v u → Grows w u
 grows_through w v u h g = record {
   size = g.size ∙ h.size;
   more = h.more ++ g.more;
   sent = g.sent ∙ ap (λ sent. sent ++ g.more) h.sent ∙ append_assoc w.sent h.more g.more;
-  consoles = λ i. prefix_trans _ _ _ (h.consoles i) (g.consoles i);
+  consoles = λ i. let first = h.consoles i in let then = g.consoles i in grind (arith, common_steps, append_assoc);
 }
 
 module _ (w v : WorldState) where
@@ -146,10 +136,7 @@ module _ (w v : WorldState) where
     size = rest.size;
     more = messages_of i bodies;
     sent = rest.sent;
-    consoles = λ j. elim (cases_eq j i) [
-      | inl e ↦ rw e own
-      | inr other ↦ rw (rest.others j other) (prefix_refl _)
-    ];
+    consoles = λ j. grind (arith, nat_tests, cases_eq j i, rest.others j, own, append-nil);
   }
 
   -- one node changes, and its console does not
@@ -160,25 +147,14 @@ module _ (w v : WorldState) where
   call_grows : (i : ℕ) (c : Option Change) (keys : List Key) → MakesCall w v i c keys → Grows w v
   call_grows i c keys h = grows_silent i h.bodies keys h.rest (ap (λ (s : Seat). s.console) h.left)
 
-  fall_grows : (i : ℕ) (c : Change) → Falls w v i c → Grows w v
-  fall_grows i c h = grows_silent i [] [] h.rest h.console
-
   call_or_fall_grows : (i : ℕ) (c : Option Change) → CallOrFall w v i c → Grows w v
   call_or_fall_grows i None h = call_grows i None [] h
   call_or_fall_grows i (Some c) (inl h) = call_grows i (Some c) [] h
-  call_or_fall_grows i (Some c) (inr h) = fall_grows i c h.1
+  call_or_fall_grows i (Some c) (inr h) = grows_silent i [] [] h.1.rest h.1.console
 
   -- a byte is offered to its console
-  offered_begins : (console : List ℕ) (n b : ℕ) → IsPrefix console (offered console n b)
-  offered_begins console n b = elim (cases_eq n (length console)) [
-    | inl e ↦ rw (eq-eqb n _ e) (record { rest = b ∷ []; whole = refl })
-    | inr other ↦ rw (ne_eqb n (length console) other) (prefix_refl console)
-  ]
-
-  release_begins : (seat : Seat) (was : Up) (o : Option ℕ)
-      → IsPrefix seat.console (after_release seat was o).console
-  release_begins seat was None = prefix_refl seat.console
-  release_begins seat was (Some b) = offered_begins seat.console was.released b
+  release_begins : (seat : Seat) (was : Up) (o : Option ℕ) → IsPrefix seat.console (after_release seat was o).console
+  release_begins seat was o = grind (arith, nat_tests, append-nil)
 
   -- each deed in a group
   step_grows : (i : ℕ) (e : Deed) → WorldStep w i e v → Grows w v
@@ -189,18 +165,14 @@ module _ (w v : WorldState) where
   step_grows i deed.Tick h = call_grows i None [] h
   step_grows i (deed.Run steps) h = grows_silent i [] [] h.rest (ap (λ (s : Seat). s.console) h.left)
   step_grows i deed.Release h =
-      grows_at i [] [] h.rest
-      (subst (λ (s : Seat). IsPrefix (w.seats i).console s.console) (sym h.left)
-      (release_begins (w.seats i) h.was _))
+      grows_at i [] [] h.rest (rw h.left (release_begins (w.seats i) h.was _))
   step_grows i deed.Crash h = grows_silent i [] [] h.rest (ap (λ (s : Seat). s.console) h.left)
   step_grows i (deed.Start r) (down, over, inl h) = grows_silent i [] [] h.rest (ap (λ (s : Seat). s.console) h.left)
-  step_grows i (deed.Start r) (down, over, inr h) = fall_grows i change.Start h
+  step_grows i (deed.Start r) (down, over, inr h) = grows_silent i [] [] h.rest h.console
 
   -- and each one that a node answers
   answered_grows : (i : ℕ) (e : Deed) (d : Done) → IsStepAt w i e d v → Grows w v
-  answered_grows i e Applied h = step_grows i e h
-  answered_grows i e Fell h = step_grows i e h
-  answered_grows i e (Refused f) h = grows_none w v h
+  answered_grows i e d h = grind (arith, nat_tests, step_grows i e, grows_none w v)
 
 -- ---- worlds
 

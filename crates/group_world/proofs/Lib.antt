@@ -5,7 +5,7 @@ mod SoundWorldsAgree
 mod OrderLists
 mod OrderFronts
 mod OrderRows
-mod WrongWorlds
+mod WrittenVotes
 mod OrderPossible
 mod HoldsAfterEvents
 mod SmallPrograms
@@ -17,7 +17,6 @@ mod TimedLogs
 mod LogEnds
 mod WrittenLogs
 mod WrongLogs
-mod LoggedRuns
 mod WitnessLogs
 pub mod ScriptLines
 mod WrongGroups

@@ -1,10 +1,10 @@
 -- A node of the group after a press, a run, a release and a start, by the contracts of the node's
 -- calls.
-use Rattle.std.proofs.lemmas.Option.{none-some, some_pair_parts}
+use Rattle.std.proofs.lemmas.Option.{none-some}
 use Rattle.std.proofs.lemmas.Bool.Decides.{nat_tests}
-use Rattle.std.proofs.lemmas.Bool.{both_ways, ne_eqb}
+use Rattle.std.proofs.lemmas.Bool.{both_ways}
 use Rattle.group_world.proofs.SoundWorldsAgree.{next_of}
-use Rattle.std.proofs.Common.{◌≡◌, ◌≢◌, ◌↔◌, ◌⊎◌, ◌∙◌, ◌<◌, ◌≤◌, Bool, true, false, ℕ, List, [], ◌∷◌, ◌+◌, length, option_map, Option, None, Some, Result, Ok, Err, IfErr, IfOk, IsErrOf, MatchResult, inl, inr, refl, sym, ap, subst, arith, OnErr}
+use Rattle.std.proofs.Common.{◌≡◌, ◌≢◌, ◌↔◌, ◌⊎◌, ◌∙◌, ◌<◌, ◌≤◌, Bool, true, false, ℕ, List, [], ◌∷◌, ◌+◌, length, option_map, Option, None, Some, Result, Ok, Err, IfErr, IfOk, IsErrOf, MatchResult, inl, inr, refl, sym, ap, arith, OnErr}
 use Rattle.paxos_msg.specs.declared.value.Value.{Value}
 use Rattle.paxos_acceptor.specs.Stores.{StoreState, FailsAsPlanned}
 use Rattle.group_protocol.specs.declared.fault.NodeFault.{NodeFault}
@@ -13,7 +13,6 @@ use Rattle.group_node.specs.declared.player.Ran.{Ran}
 use Rattle.group_protocol.specs.Known.{on_typed, new_key, next_serial, on_start}
 use Rattle.group_node.specs.Console.{offered}
 use Rattle.group_node.specs.Output.{IsReplay, RunsOn, no_progress}
-use Rattle.group_protocol.specs.States.{Protocol}
 use Rattle.group_node.specs.States.{NodeState, input}
 use Rattle.group_world.specs.declared.event.Done.TheVariants as done
 use Rattle.group_world.specs.declared.member.UpOrDown.{UpOrDown}
@@ -28,21 +27,15 @@ use Rattle.paxos_acceptor.specs.declared.me.Me.{Me}
 use Rattle.paxos_acceptor.specs.Records.{IsRecord}
 use Rattle.group_world.specs.declared.event.Done.{Done}
 use Rattle.group_world.specs.declared.fault.WorldFault.{WorldFault}
-use Rattle.group_world.proofs.AskEnds.{is_fault, as_planned}
+use Rattle.group_world.proofs.AskEnds.{as_planned}
 
--- a node that is down has the record of its store
-pub down_kept : (s : UpOrDown) → running_of s ≡ None → kept_of s ≡ (store_of s).stored
-down_kept (member.Down store) down = refl
-down_kept (member.Up n) down = absurd cc
-
+-- a node that is down is its store
 down_is : (s : UpOrDown) (console : List ℕ) → running_of s ≡ None → member_of (member.Down (store_of s)) console ≡ member_of s console
-down_is (member.Down store) console down = refl
-down_is (member.Up n) console down = absurd cc
+down_is s console down = grind (arith, nat_tests)
 
 -- the store of one that is settled has the record that a start finds
 pub settled_kept : (s : UpOrDown) → IsSettled s → (store_of s).stored ≡ kept_of s
-settled_kept (member.Down store) settled = refl
-settled_kept (member.Up n) settled = settled.stored
+settled_kept s settled = grind (arith, nat_tests)
 
 -- what is up is not down
 pub up_not_down : {s : UpOrDown} {store : StoreState} {console : List ℕ} {m : Member} {q : Running} → s ≡ member.Down store
@@ -64,9 +57,6 @@ pub record Types (old new : NodeState StoreState) (byte : ℕ) (answer : Result 
   pub others : IfErr answer (λ e. (e ≡ fault.Stopped) ⊎ (e ≡ fault.Busy) ⊎ (e ≡ fault.SerialSpent))
   pub few : length old.protocol.known.waiting ≤ 256
 
-no_error : {v : Value} {f : NodeFault} → IsErrOf {T = Value} (Ok v) f → ⊥
-no_error e = absurd cc
-
 -- how a press of the node `m`, which is up as `q`, ends, by its answer
 abbrev pub Presses : Running → Member → Option Bool → ℕ → Member → Result Value NodeFault → Type 0
 Presses q m plan byte new answer =
@@ -79,20 +69,14 @@ pub presses : (old new : NodeState StoreState) (plan : Option Bool) (console : L
     → IsOpen old → Types old new byte answer
     → Presses (running old) (member_of (member.Up old) console) plan byte (member_of (member.Up new) console) answer
 presses old new plan console byte (Ok v) is_open t =
-    let not_full : length old.protocol.known.waiting ≢ 256 = λ e. no_error (t.busy.1 (is_open.works, e)) in
-    let not_spent : next_serial old.protocol.known ≢ 4294967296 =
-    λ e. no_error (t.spent.1 (is_open.works, omega (arith, t.few, not_full), e)) in
-    rw (ne_eqb (length old.protocol.known.waiting) 256 not_full, ne_eqb (next_serial old.protocol.known) 4294967296 not_spent)
-    (record { answer = refl; left = rw (t.known, t.rest.2) refl; sends = refl; types = rw t.ok refl })
+    let n = old.protocol.known in
+    let makes : call_of_press n byte ≡ Makes (on_typed n byte) (new_key n byte ∷ []) =
+    grind (arith, nat_tests, t.busy, t.spent, t.few, is_open.works) in
+    rw makes (record { answer = refl; left = rw (t.known, t.rest.2) refl; sends = refl; types = rw t.ok refl })
 presses old new plan console byte (Err f) is_open t =
-    rw (by t.others) (record { answer = refl; left = rw t.err refl; sends = refl; types = refl })
-  where
-    by : (f ≡ fault.Stopped) ⊎ (f ≡ fault.Busy) ⊎ (f ≡ fault.SerialSpent) → call_of_press old.protocol.known byte ≡ Refuses f
-    by (inl stopped) = absurd (both_ways _ is_open.works (t.stopped (ap Err stopped)))
-    by (inr (inl busy)) = rw ((t.busy.0 (ap Err busy)).1, busy) refl
-    by (inr (inr spent)) =
-        let h = t.spent.0 (ap Err spent) in
-        grind (arith, nat_tests)
+    let refuses : call_of_press old.protocol.known byte ≡ Refuses f =
+    grind (arith, nat_tests, t.stopped, t.busy, t.spent, t.others, is_open.works) in
+    rw refuses (record { answer = refl; left = rw t.err refl; sends = refl; types = refl })
 
 -- a node at which a byte was typed is still open
 pub typed_open : {old new : NodeState StoreState} {byte : ℕ} {answer : Result Value NodeFault} → IsOpen old
@@ -112,14 +96,8 @@ runs old new console steps (Ok ran) is_open on protocol stopped others replay = 
   progress = new.progress;
   ran = ran;
   runs = on;
-  replay = subst (λ (p : Protocol StoreState). IsReplay (input p.known) new.progress) protocol replay;
-  new_is =
-      ap (λ (p : Protocol StoreState).
-      record {
-        kept = p.known.kept;
-        console = console;
-        node = Some (record { known = p.known; progress = new.progress });
-      }) protocol;
+  replay = rw protocol at replay;
+  new_is = rw protocol refl;
 }
 runs old new console steps (Err f) is_open on protocol stopped others replay =
     absurd (both_ways _ is_open.works (stopped (ap Err others)))
@@ -132,12 +110,10 @@ run_open is_open protocol = record { works = rw protocol is_open.works; stored =
 -- the first of the bytes that wait is released
 next_byte : (o : Option ℕ) (at number byte : ℕ)
     → ◌≡◌ {A = Option (ℕ × ℕ)} (Some (number, byte)) (option_map (λ b. (at, b)) o) → (o ≡ Some byte) × (number ≡ at)
-next_byte None at number byte e = absurd cc
-next_byte (Some b) at number byte e = let pair = some_pair_parts number at byte b e in (ap Some (sym pair.1), pair.0)
+next_byte o at number byte e = grind (arith, nat_tests)
 
 no_byte : (o : Option ℕ) (at : ℕ) → ◌≡◌ {A = Option (ℕ × ℕ)} None (option_map (λ b. (at, b)) o) → o ≡ None
-no_byte None at e = refl
-no_byte (Some b) at e = absurd cc
+no_byte o at e = grind (arith, nat_tests)
 
 -- a node that has released a byte, with its console
 pub releases : (old new : NodeState StoreState) (console shown : List ℕ) (number byte : ℕ)
@@ -206,7 +182,7 @@ module _ (plan : Option Bool) (me : Me) (p : Parts) (s : UpOrDown) (console : Li
     -- what it is after it
     left : (f ≡ fault.Store) ⊎ (f ≢ fault.Store) → new ≡ member.Down store
     left (inl device) = fell (ap Err device) ∙ ap (λ x. member.Down (store_of x)) at
-    left (inr other) = stays (λ e. other (is_fault e)) ∙ at
+    left (inr other) = stays (λ e. other (cc)) ∙ at
 
     -- the start that fails, by what it answered
     fails_so : IsRecord me.group.size (store_of s).stored → (d : Done) → IsDone (Err f) d → StartEnds d new
@@ -223,14 +199,13 @@ module _ (plan : Option Bool) (me : Me) (p : Parts) (s : UpOrDown) (console : Li
           rw (left (inr not_store), of_store, fails.spent spent)
           (record { answer = answer ∙ ap done.Refused spent; left = rw (fails.same not_store) refl; sends = refl; types = refl })
 
-    pub start_fails : IsRecord me.group.size (store_of s).stored → IfOk r (λ d. IsDone (Err f) d) → IfOk r (λ d. StartEnds d new)
-    start_fails ranges done = IfOk-weaker r _ (λ d. StartEnds d new) (fails_so ranges) done
+    -- a start that ran out of memory changes nothing
+    same : ◌≡◌ {A = Result (Unit {0}) NodeFault} (Err f) (Err fault.Memory) → member_of new console ≡ m
+    same memory =
+        let other : f ≢ fault.Store = λ device. absurd cc in
+        rw (left (inr other), fails.same other) (sym of_store)
 
-    -- a start that ran out of memory
-    pub start_changes_nothing : OnErr r (◌≡◌ {A = Result (Unit {0}) NodeFault} (Err f) (Err fault.Memory))
-        → OnErr r (member_of new console ≡ m)
-    start_changes_nothing memory = on_err_weaker r same memory where
-      same : ◌≡◌ {A = Result (Unit {0}) NodeFault} (Err f) (Err fault.Memory) → member_of new console ≡ m
-      same memory =
-          let other : f ≢ fault.Store = λ device. absurd cc in
-          rw (left (inr other), fails.same other) (sym of_store)
+    pub start_fails : IsRecord me.group.size (store_of s).stored → IfOk r (λ d. IsDone (Err f) d)
+        → OnErr r (◌≡◌ {A = Result (Unit {0}) NodeFault} (Err f) (Err fault.Memory))
+        → IfOk r (λ d. StartEnds d new) × OnErr r (member_of new console ≡ m)
+    start_fails ranges done memory = (IfOk-weaker r _ (λ d. StartEnds d new) (fails_so ranges) done, on_err_weaker r same memory)

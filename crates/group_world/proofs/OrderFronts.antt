@@ -3,11 +3,11 @@
 use Rattle.std.proofs.Common.{◌≡◌, ◌∙◌, ℕ, ◌+◌, ◌<◌, ◌≤◌, Bool, true, false, List, [], ◌∷◌, ◌++◌, length, map, Some, if◌then◌else◌, refl, sym, ap, subst, inl, inr, append_assoc, arith, IsTrue, ◌↔◌}
 use Rattle.std.proofs.lemmas.Bool.{cases_lt, both_ways}
 use Rattle.std.proofs.lemmas.List.{append-nil}
-use Rattle.std.proofs.lemmas.List.Elements.{All-cons, All-contains, All-filter, All-nil, All-weaker, Contains-append_left, Contains-append_right, Contains-get_or, Contains-push}
+use Rattle.std.proofs.lemmas.List.Elements.{Contains-append_left, Contains-append_right, Contains-get_or, Contains-push}
 use Rattle.std.proofs.lemmas.List.Quantifiers.{all_pairs_push}
 use Rattle.std.proofs.lemmas.List.Concat.{flat_map-append}
 use Rattle.std.proofs.lemmas.Option.{slice_get-get_or, slice_get_within}
-use Rattle.std.specs.List.{All, Contains, flat_map, range_with_len, slice_get}
+use Rattle.std.specs.List.{Contains, flat_map, range_with_len}
 use Rattle.paxos_msg.specs.Keys.{Key, keys_from, keys_of}
 use Rattle.indexmap.specs.IndexSet.{insert_key}
 use Rattle.paxos_learner.specs.Input.{same_key, has_key, firsts, keys_in_order}
@@ -20,7 +20,7 @@ use Rattle.group_world.specs.Group.{World, world_state}
 use Rattle.group_world.specs.Order.{HaveOneName, AreApart, AreInOrder, is_of, serials_of}
 use Rattle.group_world.specs.Ordered.{HasSerial, IsDue, IsOrdered}
 use Rattle.group_world.specs.Sound.{IsSound}
-use Rattle.group_world.proofs.OrderLists.{left_place, in_filter, place_of, in_from_place, in_flat_map, of_flat_map, in_range, of_range}
+use Rattle.group_world.proofs.OrderLists.{here_place, of_filter, left_place, in_filter, place_of, in_from_place, in_flat_map, of_flat_map, in_range, of_range}
 use Rattle.group_world.proofs.SoundWorldsAgree.{ChoiceLaws}
 use Rattle.group_world.proofs.OrderRows.{apart_same, of_test, other_more, row_more, serial_in, serial_of, has_in}
 use Rattle.group_protocol.proofs.Elements.{first_in, in_cases, none_in, rest_in}
@@ -44,16 +44,13 @@ pub record OrderLaws : Type 0 where
 
 -- ---- the firsts of keys
 
--- they are among the keys
-firsts_among : (keys : List Key) → All (Contains keys) (firsts keys)
-firsts_among [] = All-nil _
-firsts_among (k ∷ keys) =
-    All-cons (Contains (k ∷ keys)) k _ (first_in k keys)
-    (All-filter _ (Contains (k ∷ keys)) _ (All-weaker (Contains keys) (Contains (k ∷ keys)) (rest_in k keys) _ (firsts_among keys)))
-
--- so each of them is one of the keys
-of_firsts : (keys : List Key) (k : Key) → Contains (firsts keys) k → Contains keys k
-of_firsts keys k h = All-contains (Contains keys) (firsts keys) k (firsts_among keys) h
+-- each of them is one of the keys
+of_firsts : (keys : List Key) (x : Key) → Contains (firsts keys) x → Contains keys x
+of_firsts [] x h = h
+of_firsts (k ∷ keys) x h = elim (in_cases k _ x h) [
+  | inl e ↦ subst (Contains (k ∷ keys)) e (first_in k keys)
+  | inr later ↦ rest_in k keys x (of_firsts keys x (of_filter _ (firsts keys) x later).0)
+]
 
 -- ---- one key more keeps the order
 
@@ -72,9 +69,9 @@ module _ (keys : List Key) (k : Key) (h : AreOrderly keys) (follows : Follows ke
       let (low, high) = around follows in
       elim (cases_lt n k.serial) [
         | inl above ↦ omega arith
-        | inr within ↦ absurd
-            (found (serial_of keys k.node k.start k.serial
-            (subst (λ l. Contains l k.serial) (sym e) (in_range 1 n k.serial low (omega arith)))))
+        | inr within ↦
+            let has = serial_of keys k.node k.start k.serial (rw e (in_range 1 n k.serial low (omega arith))) in
+            absurd (new has.key has.among (record { node = has.node_is; start = has.start_is; serial = has.serial_is }))
       ]
     where
       around : Follows keys k.node k.start k.serial → (1 ≤ k.serial) × (k.serial ≤ n + 1)
@@ -82,9 +79,6 @@ module _ (keys : List Key) (k : Key) (h : AreOrderly keys) (follows : Follows ke
       around (goes_on before next has) =
           let inside = of_range 1 n before (subst (λ l. Contains l before) e (serial_in keys k.node k.start before has)) in
           (omega arith, omega (arith, inside.1))
-
-      found : HasSerial keys k.node k.start k.serial → ⊥
-      found has = new has.key has.among (record { node = has.node_is; start = has.start_is; serial = has.serial_is })
 
   -- the order goes on with it
   next_order : AreInOrder (keys ++ k ∷ [])
@@ -108,11 +102,6 @@ module _ (keys : List Key) (k : Key) (h : AreOrderly keys) (follows : Follows ke
   }
 
 -- ---- the keys of values, one after another
-
--- the element after others
-here_place : {X : Type 0} (xs : List X) (y : X) (ys : List X) → slice_get (xs ++ y ∷ ys) (length xs) ≡ Some y
-here_place [] y ys = refl
-here_place (x ∷ xs) y ys = here_place xs y ys
 
 module _ (laws : OrderLaws) where
   -- each key is among the firsts

@@ -33,10 +33,8 @@ not_of node start k ne = grind (arith, nat_tests, ne)
 
 pub serial_in : (keys : List Key) (node start serial : ℕ) → HasSerial keys node start serial → Contains (serials_of node start keys) serial
 serial_in keys node start serial h =
-    let there =
-    in_map (λ (k : Key). k.serial) _ h.key
-    (in_filter _ keys h.key h.among (test_of node start h.key h.node_is h.start_is)) in
-    subst (λ n. Contains (serials_of node start keys) n) h.serial_is there
+    rw h.serial_is at (in_map (λ (k : Key). k.serial) _ h.key
+    (in_filter (is_of node start) keys h.key h.among (test_of node start h.key h.node_is h.start_is)))
 
 pub serial_of : (keys : List Key) (node start serial : ℕ) → Contains (serials_of node start keys) serial → HasSerial keys node start serial
 serial_of keys node start serial h =
@@ -98,8 +96,7 @@ pub record IsParted (read keys stay : List Key) : Type 0 where
 
 -- the first of the waiting keys with one more
 first_more : (read keys : List Key) (k : Key) → IsFirstUnread read keys → (Contains read k → ⊥) → IsFirstUnread read (keys ++ k ∷ [])
-first_more read [] k first out = out
-first_more read (key ∷ keys) k first out = first
+first_more read keys k first out = grind (arith, nat_tests)
 
 -- the row of a start in which no key was typed
 pub fresh_row : (typed : List Key) (i start : ℕ) (read : List Key)

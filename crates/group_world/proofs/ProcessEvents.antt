@@ -1,7 +1,7 @@
 -- A log of processes as events, and events as a log of processes: each entry is an event at its
 -- node, which leaves what the entry says. And a log in two parts has nodes in between.
 use Rattle.std.proofs.lemmas.Option.{same_Some, slice_get-get_or, slice_get_within}
-use Rattle.std.proofs.lemmas.List.{append-nil, length-set}
+use Rattle.std.proofs.lemmas.List.{append-nil, length-set, nil_from_length}
 use Rattle.std.proofs.Common.{◌≡◌, ◌≢◌, ◌∙◌, ◌⊎◌, inl, inr, ℕ, zero, suc, ◌-◌, List, [], ◌∷◌, ◌++◌, append_assoc, length, slice_get, slice_set, get_or, Some, refl, sym, ap, subst, arith}
 use Rattle.std.proofs.lemmas.Bool.{eq-eqb, ne_eqb, cases_eq}
 use Rattle.paxos_msg.specs.declared.message.Group.{Group}
@@ -10,7 +10,6 @@ use Rattle.group_node.specs.Deeds.{Campaign, Crash, Deed, Hear, Idle, Press, Rel
 use Rattle.group_world.specs.declared.event.Act.{Act}
 use Rattle.group_world.specs.declared.event.Act.TheVariants as act
 use Rattle.group_world.specs.declared.event.Event.{Event}
-use Rattle.group_world.specs.Deeds.{DoesDeed}
 use Rattle.group_world.specs.Event.{DoesAt, HearsOf, IsDeedOf, LeadsBy, node_of, plan_of, Goes}
 use Rattle.group_world.specs.Group.{World, me_of, member_at, messages_in}
 use Rattle.group_world.specs.Member.{Member}
@@ -28,23 +27,16 @@ moved w e new =
     record w { members = slice_set w.members (e.node - 1) new; sent = w.sent ++ e.sent; typed = w.typed ++ e.typed }
 
 module _ (w : World) (e : Entry) (m : Member) (there : member_at w.members e.node ≡ Some m) where
-  -- its deed leads there
-  entry_does : (new : Member) (done : DoesEntry w.program (me_of w e.node) m e new)
-      → DoesAt w e.node (plan_of e.save) e.deed done.0 (moved w e new)
-  entry_does new (d, does) =
-      record { node = m; there = there; left = left_by e d new; does = does; answers = refl; leads = refl }
-
   -- the events of the entry, one or none, lead to the world after it
   entry_leads : (new : Member) (events : List Event) → DoesEntry w.program (me_of w e.node) m e new
       → AreEventsOfEntry w.group w.sent e events → LeadsBy w events (moved w e new)
   entry_leads new [] (d, does) idle =
-      idle_leads w e.node m there {left = left_by e d new}
-      (subst (λ x. DoesDeed w.program (me_of w e.node) m (plan_of e.save) x (left_by e d new)) idle does)
-  entry_leads new (one ∷ events) done (of_act, at, saved, none) =
-      let v = moved w e new in
-      let there_so = subst (λ i. DoesAt w i (plan_of e.save) e.deed done.0 v) (sym at) (entry_does new done) in
-      let saved_so = subst (λ save. DoesAt w (node_of one.act) (plan_of save) e.deed done.0 v) (sym saved) there_so in
-      (v, done.0, record { deed = e.deed; is_deed = of_act; does = saved_so }, subst (λ es. LeadsBy v es v) (sym none) refl)
+      idle_leads w e.node m there {left = left_by e d new} (rw idle at does)
+  entry_leads new (one ∷ events) (d, does) (of_act, at, saved, none) =
+      let left = left_by e d new in
+      let goes : DoesAt w e.node (plan_of e.save) e.deed d (moved w e new) =
+      record { node = m; there = there; left = left; does = does; answers = refl; leads = refl } in
+      (moved w e new, d, record { deed = e.deed; is_deed = of_act; does = rw (at, saved) goes }, rw none refl)
 
 -- a deed is idle, or that of an act at its node
 deed_has_act : (group : Group) (sent : List Datagram) (i : ℕ) (deed : Deed) → HearsOf group sent deed
@@ -82,24 +74,19 @@ log_has_events group sent (e ∷ log) (heard, carried) =
 -- two lists with the same elements
 pub same_items : {X : Type 0} (xs ys : List X) → length ys ≡ length xs
     → ((k : ℕ) (x y : X) → slice_get xs k ≡ Some x → slice_get ys k ≡ Some y → y ≡ x) → ys ≡ xs
-same_items [] [] long same = refl
-same_items [] (y ∷ ys) long same = absurd cc
+same_items [] ys long same = nil_from_length ys long
 same_items (x ∷ xs) [] long same = absurd cc
 same_items (x ∷ xs) (y ∷ ys) long same =
     let first : y ≡ x = same zero x y refl refl in
     let rest = same_items xs ys (omega arith) (λ k a b p q. same (suc k) a b p q) in
     rw (first, rest) refl
 
--- a list that is as long has an element there too
-item_there : {X Y : Type 0} (xs : List X) (ys : List Y) (k : ℕ) (y : Y) (default : X) → length ys ≡ length xs → slice_get ys k ≡ Some y
-    → (x : X) × (slice_get xs k ≡ Some x)
-item_there xs ys k y default long at =
-    (get_or xs k default, slice_get-get_or xs k default (omega (arith, slice_get_within ys k y at)))
-
+-- a list that is as long has a node there too
 pub member_there : (members now : List Member) (i : ℕ) (last : Member) → length now ≡ length members → member_at now i ≡ Some last
     → (m : Member) × (member_at members i ≡ Some m)
 member_there members now zero last long at = absurd cc
-member_there members now (suc k) last long at = item_there members now k last last long at
+member_there members now (suc k) last long at =
+    (get_or members k last, slice_get-get_or members k last (omega (arith, slice_get_within now k last at)))
 
 -- the entries of the first entry's node, and of another
 pub own_entries : (e : Entry) (log : List Entry) → entries_of e.node (e ∷ log) ≡ e ∷ entries_of e.node log
@@ -213,10 +200,8 @@ log_before w e log now m new there does heard h =
         let z_there : member_at now e.node ≡ Some z = rw same at z_at in
         let x_is : m ≡ x = same_Some m x (sym there ∙ x_there) in
         let rest = h.nodes e.node new z (changed_here w.members e.node m new there) z_there in
-        let all : IsHistory w.program (me_of w e.node) m (e ∷ entries_of e.node log) z = (new, does, rest) in
-        let whole = subst (λ es. IsHistory w.program (me_of w e.node) m es z) (sym (own_entries e log)) all in
         subst (λ k. IsHistory w.program (me_of w k) x (entries_of k (e ∷ log)) z) (sym same)
-        (subst (λ y. IsHistory w.program (me_of w e.node) y (entries_of e.node (e ∷ log)) z) x_is whole)
+        (rw (← x_is) (subst (λ es. IsHistory w.program (me_of w e.node) m es z) (sym (own_entries e log)) (new, does, rest)))
 
 pub no_log : (w v : World) → v ≡ w → IsLog w [] v.members × (v ≡ after_log w [] v.members)
 no_log w v is = (
@@ -234,14 +219,11 @@ pub leads_log : (events : List Event) (w v : World) → LeadsBy w events v → M
 leads_log [] w v is = let found = no_log w v is in ([], found.0, refl, found.1)
 leads_log (e ∷ events) w v (mid, d, goes, rest) =
     let (entry, m, new, there, does, heard, one, is) = event_entry w mid e d goes in
-    let (log, h, are, whole) = leads_log events mid v rest in
-    let h_so = subst (λ (x : World). IsLog x log v.members) is h in
-    let are_so = subst (λ (x : World). AreEventsOf x.group x.sent log events) is are in
-    let whole_so = subst (λ (x : World). v ≡ after_log x log v.members) is whole in (
+    let (log, h, are, whole) = subst (λ (x : World). MayBeLogged x events v) is (leads_log events mid v rest) in (
       entry ∷ log,
-      log_before w entry log v.members m new there does heard h_so,
-      (e ∷ [], events, one, are_so, refl),
-      whole_so ∙ after_both w entry log v.members new,
+      log_before w entry log v.members m new there does heard h,
+      (e ∷ [], events, one, are, refl),
+      whole ∙ after_both w entry log v.members new,
     )
 
 -- ---- a log in two parts
@@ -253,10 +235,8 @@ log_parts [] more w now h =
 log_parts (e ∷ log) more w now h =
     let (last, at) = h.among.0 in
     let (m, there) = member_there w.members now e.node last h.places at in
-    let all = own_entries e (log ++ more) in
-    let history = subst (λ es. IsHistory w.program (me_of w e.node) m es last) all (h.nodes e.node m last there at) in
-    let (new, does, rest) = history in
-    let (mid, found) = log_parts log more (moved w e new) now (log_goes_on w e (log ++ more) now m last new there at rest h) in (
+    let (new, does, rest) = log_first w e (log ++ more) now m there h in
+    let (mid, found) = log_parts log more (moved w e new) now rest in (
       mid,
       record {
         before = log_before w e log mid m new there does h.carried.0 found.before;

@@ -6,6 +6,12 @@ use Rattle.pcode_ops.specs.Decoding.{instr_of}
 use Rattle.pcode_machine.specs.Configuration.{Configuration}
 use Rattle.pcode_machine.specs.Transition.{Goes as Leads_to, Transition, transition}
 use Rattle.pcode_machine.specs.Runs.{IsPrefix, LeadsIn, after_steps, led, out}
+use Rattle.std.specs.FinMap.{empty, insert}
+use Rattle.paxos_msg.specs.declared.value.Value.{Value}
+use Rattle.paxos_msg.specs.declared.value.Value.TheVariants.{Keys}
+use Rattle.paxos_learner.specs.Input.{learned_input}
+use Rattle.paxos_learner.proofs.OnePlace.{get_here}
+use Rattle.group_protocol.proofs.Elements.{entries_one}
 use Rattle.group_node.specs.declared.player.Ran.TheVariants as more
 use Rattle.group_node.specs.Output.{IsReplay, Progress, RunsOn, no_progress, unreleased_of}
 use Rattle.group_world.specs.Witness.{echoes, letter_program}
@@ -79,9 +85,12 @@ pub writes_letter : (x : List ℕ) → WritesLetter letter_program x
 unfolding all_go is_step out after_steps instr_of
 writes_letter x = record { goes = refl; writes = refl }
 
-abbrev pub line : List ℕ
-line = 65 ∷ []
-
-pub echoes_letter : WritesLetter echoes line
+echoes_letter : WritesLetter echoes (65 ∷ [])
 unfolding all_go is_step out after_steps instr_of
 echoes_letter = record { goes = refl; writes = refl }
+
+-- where the letter is the first key that was learned
+pub echoes_first : (node start : ℕ) → WritesLetter echoes (learned_input (insert empty 0 (Keys node start 1 (65 ∷ []))))
+echoes_first node start =
+    let key : Value = Keys node start 1 (65 ∷ []) in
+    rw (entries_one 0 key, get_here empty 0 key) echoes_letter

@@ -1,7 +1,7 @@
 -- The claims about a sound world, for the law `sound_worlds_agree`: what is learned is chosen, and
 -- what machines write and consoles show is output on chosen values. First, a console after a byte
 -- that its node releases.
-use Rattle.std.proofs.Common.{◌≡◌, ◌≢◌, ◌∙◌, ℕ, List, Contains, Option, None, Some, option_map, inl, inr, refl, sym, ap, subst, slice_get, ◌<◌, ◌≤◌, [], length, append-nil, arith, get_or, zero, suc, ◌+◌, ◌⊎◌, ◌∷◌, ◌++◌, drop, take, append_assoc}
+use Rattle.std.proofs.Common.{◌≡◌, ◌≢◌, ◌∙◌, ℕ, List, Contains, Option, None, Some, option_map, inl, inr, refl, sym, ap, slice_get, ◌<◌, ◌≤◌, [], length, append-nil, arith, zero, suc, ◌+◌, ◌⊎◌, ◌∷◌, ◌++◌, drop, take, append_assoc, length-append}
 use Rattle.std.specs.FinMap.{get, FinMap}
 use Rattle.pcode_machine.specs.Runs.{IsOutput, out, AreComparable, IsPrefix}
 use Rattle.paxos_msg.specs.declared.value.Value.{Value}
@@ -16,7 +16,7 @@ use Rattle.group_world.specs.Group.{IsUp, member_at, seat_of_member, up_of, Worl
 use Rattle.group_world.specs.Member.{Member, Running}
 use Rattle.group_world.specs.Headline.{ConsolesAgree, ConsolesHoldOutput, HasLearned, HasNoGap, LearnedAgree, LearnedChosen}
 use Rattle.group_world.specs.Sound.{IsSound, IsLearnedChosen}
-use Rattle.group_world.proofs.OrderLists.{left_place}
+use Rattle.group_world.proofs.OrderLists.{here_place, left_place}
 use Rattle.group_world.proofs.WorldAsGroup.{running}
 use Rattle.std.proofs.lemmas.Option.{slice_get_within, slice_get-get_or}
 use Rattle.std.specs.Ordering.{nat_cmp}
@@ -48,28 +48,16 @@ first_dropped (suc k) (x ∷ xs) = first_dropped k xs
 pub next_written : (q : Running) → slice_get (written q) q.progress.released ≡ next_of q
 next_written q = sym (first_dropped _ (written q))
 
--- the element after a prefix is the first of the rest
-first_of_rest : (a rest : List ℕ) (b : ℕ) → slice_get (a ++ rest) (length a) ≡ Some b → (more : List ℕ) × (rest ≡ b ∷ more)
-first_of_rest [] [] b e = absurd cc
-first_of_rest [] (x ∷ xs) b e = (xs, cc)
-first_of_rest (x ∷ xs) rest b e = first_of_rest xs rest b e
-
 -- a prefix with the next element is a prefix
 push_prefix : (a all : List ℕ) (b : ℕ) → IsPrefix a all → slice_get all (length a) ≡ Some b → IsPrefix (a ++ b ∷ []) all
-push_prefix a all b h e =
-    let next = first_of_rest a h.rest b (ap (λ l. slice_get l (length a)) (sym h.whole) ∙ e) in
-    record { rest = next.0; whole = h.whole ∙ ap (λ l. a ++ l) next.1 ∙ sym (append_assoc a (b ∷ []) next.0) }
-
-some_at : (a : List ℕ) (k : ℕ) → k < length a → (b : ℕ) × (slice_get a k ≡ Some b)
-some_at a k low = (get_or a k 0, slice_get-get_or a k 0 low)
-
-prefix_get : (a all : List ℕ) (k b : ℕ) → IsPrefix a all → slice_get a k ≡ Some b → slice_get all k ≡ Some b
-prefix_get a all k b h e = ap (λ l. slice_get l k) h.whole ∙ left_place a h.rest k b e
+push_prefix a all b h e = by h.rest h.whole where
+  by : (rest : List ℕ) → all ≡ a ++ rest → IsPrefix (a ++ b ∷ []) all
+  by [] whole = absurd (omega (arith, slice_get_within all (length a) b e, ap length whole, length-append a []))
+  by (x ∷ xs) whole = record { rest = xs; whole = grind (arith, nat_tests, here_place, append_assoc) }
 
 -- an element that both of two comparable lists have is the same
 compare_get : (a b : List ℕ) (k x y : ℕ) → AreComparable a b → slice_get a k ≡ Some x → slice_get b k ≡ Some y → x ≡ y
-compare_get a b k x y (inl h) e f = let there = prefix_get a b k x h e in cc
-compare_get a b k x y (inr h) e f = let there = prefix_get b a k y h f in cc
+compare_get a b k x y h e f = grind (arith, nat_tests, left_place)
 
 -- ---- the offer
 
@@ -82,25 +70,13 @@ pub record IsOffer (console all : List ℕ) (k b : ℕ) : Type 0 where
   pub byte : slice_get all k ≡ Some b
 
 module _ {console all : List ℕ} {k b : ℕ} (h : IsOffer console all k b) where
-  -- the console with the byte begins that output
-  fresh_prefix : k ≡ length console → IsPrefix (console ++ b ∷ []) all
-  fresh_prefix e =
-      push_prefix console all b
-      (h.begins (omega (arith, slice_get_within all k b h.byte, e))) (subst (λ n. slice_get all n ≡ Some b) e h.byte)
-
-  -- if the console shows more than `k` bytes, byte `k` is one of them
-  same_byte : k < length console → slice_get console k ≡ Some b
-  same_byte low =
-      let there = some_at console k low in
-      there.1 ∙ ap Some (compare_get console all k there.0 b h.compare there.1 h.byte)
-
   -- it never comes too early
   no_gap : offer_answer console k ≢ Gap
   no_gap gap = grind (arith, nat_tests, h.shown)
 
   -- a byte that comes again is there
   repeat_is_same : offer_answer console k ≡ Repeat → slice_get console k ≡ Some b
-  repeat_is_same again = grind (arith, nat_tests, h.shown, same_byte)
+  repeat_is_same again = grind (arith, nat_tests, h.shown, h.compare, slice_get-get_or console k 0, compare_get)
 
   -- the console shows the byte after the offer
   pub shown_then : k + 1 ≤ length (offered console k b)
@@ -108,7 +84,7 @@ module _ {console all : List ℕ} {k b : ℕ} (h : IsOffer console all k b) wher
 
   -- the console is as it was, or begins that output
   pub same_or_prefix : (offered console k b ≡ console) ⊎ IsPrefix (offered console k b) all
-  same_or_prefix = grind (arith, nat_tests, fresh_prefix)
+  same_or_prefix = grind (arith, nat_tests, push_prefix, h.begins, h.byte, slice_get_within)
 
 -- ---- output on chosen values
 
@@ -172,8 +148,7 @@ module _ (laws : PlayLaws) {w : World} (h : IsSound w) where
 
 -- comparable lists begin alike
 first_alike : (a b : List ℕ) (k : ℕ) → AreComparable a b → k ≤ length a → k ≤ length b → take k b ≡ take k a
-first_alike a b k (inl h) low high = ap (take k) h.whole ∙ take-append-le k a h.rest low
-first_alike a b k (inr h) low high = sym (ap (take k) h.whole ∙ take-append-le k b h.rest high)
+first_alike a b k h low high = grind (arith, nat_tests, take-append-le)
 
 -- ---- the claims
 
@@ -236,34 +211,22 @@ module _ (laws : PlayLaws) (w : World) (h : IsSound w) where
       let (x, chosen) = laws.there w.group.size _ in
       laws.compared w.program x x _ _ (inl (laws.itself x)) (consoles_hold_output x i chosen) (consoles_hold_output x j chosen)
 
-  -- the byte with number `k` comes next, or is there
-  FitsNext : List ℕ → ℕ → ℕ → Type 0
-  FitsNext console k byte = (offer_answer console k ≢ Gap) × (offer_answer console k ≡ Repeat → slice_get console k ≡ Some byte)
-
+  -- the next byte comes next, or is there
   pub has_no_gap : HasNoGap (world_state w)
-  unfolding out FitsNext
+  unfolding out
   has_no_gap i byte node up e =
       let seen = seen_up w i node up in
-      let q = seen.running in
-      let next = ap (λ (u : Up). slice_get u.configuration.output u.released) seen.seen ∙ e in
-      let offer = offer_fits laws h seen.is_up byte next in
-      let console = ap (λ o. (seat_of_member o).console) seen.is_up.there in
-      subst (λ c. FitsNext c node.released byte) (sym console)
-      (subst (λ (u : Up). FitsNext seen.member.console u.released byte) seen.seen (no_gap offer, repeat_is_same offer))
+      let offer = offer_fits laws h seen.is_up byte (rw (← seen.seen) at e) in
+      rw (← seen.seen, seen.is_up.there) (no_gap offer, repeat_is_same offer)
 
   -- what was released is on the console
-  FitsReleased : List ℕ → Up → Type 0
-  FitsReleased console u = (u.released ≤ length console) × (take u.released u.configuration.output ≡ take u.released console)
-
   pub consoles_show_released : ConsolesShowReleased (world_state w)
-  unfolding out FitsReleased
+  unfolding out
   consoles_show_released i node up =
       let seen = seen_up w i node up in
       let q = seen.running in
-      let m = seen.member in
       let sound = running h seen.is_up in
-      let alike = first_alike m.console (written q) q.progress.released (console_compares laws h seen.is_up) sound.shown
+      let alike =
+      first_alike seen.member.console (written q) q.progress.released (console_compares laws h seen.is_up) sound.shown
       sound.replay.released in
-      let console = ap (λ o. (seat_of_member o).console) seen.is_up.there in
-      let fits : FitsReleased m.console (up_of q) = (sound.shown, alike) in
-      subst (λ c. FitsReleased c node) (sym console) (subst (FitsReleased m.console) seen.seen fits)
+      rw (← seen.seen, seen.is_up.there) (sound.shown, alike)

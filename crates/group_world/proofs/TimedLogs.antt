@@ -2,7 +2,7 @@
 use Rattle.std.proofs.lemmas.List.{append-nil, map-append}
 use Rattle.std.proofs.lemmas.List.Elements.{Contains-append_left, Contains-append_right, Contains-append_cases, filter_map-append}
 use Rattle.std.proofs.lemmas.Grind.{flat_map-append}
-use Rattle.std.proofs.Common.{◌≡◌, ◌<◌, ◌≤◌, ◌⊎◌, List, [], ◌∷◌, ◌++◌, append_assoc, inl, inr, sym, ap, subst, arith}
+use Rattle.std.proofs.Common.{◌≡◌, ◌<◌, ◌≤◌, List, [], ◌∷◌, ◌++◌, append_assoc, inl, inr, sym, subst, arith}
 use Rattle.std.specs.List.{AllByRecursion, Contains}
 use Rattle.paxos_msg.specs.declared.message.Group.{Group}
 use Rattle.paxos_msg.specs.Batches.{Msg}
@@ -21,11 +21,10 @@ module _ (group : Group) where
   sent_by_one [] y m there said = absurd (none_in y there)
   sent_by_one (x ∷ front) y m there said =
       let both = filter_map-append (message_of group) x.entry.sent (sent_in (untimed front)) in
-      let here : (x ≡ y) → Contains (messages_in group x.entry.sent ++ messages_in group (sent_in (untimed front))) m =
-      λ e. Contains-append_left _ _ m (subst (λ (z : Timed). Contains (messages_in group z.entry.sent) m) (sym e) said) in
-      let later : Contains front y → Contains (messages_in group x.entry.sent ++ messages_in group (sent_in (untimed front))) m =
-      λ h. Contains-append_right _ _ m (sent_by_one front y m h said) in
-      subst (λ ms. Contains ms m) (sym both) (elim (in_cases x front y there) [ inl e ↦ here e | inr h ↦ later h ])
+      subst (λ ms. Contains ms m) (sym both) (elim (in_cases x front y there) [
+        | inl e ↦ Contains-append_left _ _ m (subst (λ (z : Timed). Contains (messages_in group z.entry.sent) m) (sym e) said)
+        | inr h ↦ Contains-append_right _ _ m (sent_by_one front y m h said)
+      ])
 
   module _ (sent : List Datagram) where
     -- what was sent before all entries, and by those in front
@@ -37,12 +36,8 @@ module _ (group : Group) where
         → y.time < x.time → Contains front y
     sender_in_front front rest x y later there earlier = elim (Contains-append_cases front (x ∷ rest) y there) [
       | inl h ↦ h
-      | inr h ↦ absurd (not_later (in_cases x rest y h))
+      | inr h ↦ absurd (omega (arith, each_of (λ z. x.time ≤ z.time) (x ∷ rest) y (omega arith, later) h))
     ]
-      where
-        not_later : (x ≡ y) ⊎ Contains rest y → ⊥
-        not_later (inl e) = let same = ap (λ (z : Timed). z.time) e in omega arith
-        not_later (inr h) = let least : x.time ≤ y.time = each_of (λ z. x.time ≤ z.time) rest y later h in omega arith
 
     one_heard : (front rest : List Timed) (x : Timed) (deed : Deed) → AllByRecursion (λ z. x.time ≤ z.time) rest
         → HearsEarlier group (front ++ x ∷ rest) x.time deed → HearsOf group (before front) deed

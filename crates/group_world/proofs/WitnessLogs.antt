@@ -2,43 +2,41 @@
 -- `a_written_log`; the events of the witness lead to a world in which the key is learned and shown,
 -- for `keys_may_show`; and two consoles show a byte, for `consoles_may_show`. First, what each node
 -- of the first log knows after each of its calls.
-use Rattle.std.proofs.Common.{◌≡◌, ◌∙◌, ℕ, length, All, List, [], ◌∷◌, map, replicate, slice_get, slice_set, take, None, Some, refl, arith, Option, ◌++◌}
+use Rattle.std.proofs.Common.{◌≡◌, ℕ, length, All, List, [], ◌∷◌, map, replicate, slice_get, slice_set, take, Some, refl, arith, ◌++◌}
 use Rattle.std.proofs.lemmas.List.Elements.{All-from_recursion}
-use Rattle.std.specs.FinMap.{FinMap, empty, get, get-empty, insert, remove}
+use Rattle.std.specs.FinMap.{FinMap, empty, get-empty, insert, remove}
 use Rattle.std.specs.Ordering.{nat_cmp}
 use Rattle.paxos_msg.specs.declared.message.Body.TheVariants.{Accept, Accepted, Ask, Prepare, Promise, Submit}
 use Rattle.paxos_msg.specs.declared.record.Change.TheVariants as change
 use Rattle.paxos_msg.specs.declared.value.Value.{Value}
 use Rattle.paxos_msg.specs.Batches.{Msg, Record}
-use Rattle.paxos_msg.specs.Fits.{IsBallot, IsValue, IsGroup}
+use Rattle.paxos_msg.specs.Fits.{IsGroup}
 use Rattle.paxos_acceptor.specs.declared.me.Me.{Me}
 use Rattle.paxos_proposer.specs.Proposer.{Proposer, new_proposer, proposing}
 use Rattle.paxos_learner.specs.Entered.{keys_with}
-use Rattle.paxos_learner.specs.Input.{learned_input}
 use Rattle.paxos_learner.specs.Tallies.{Tally, begun_tally}
 use Rattle.paxos_learner.proofs.OnePlace.{get_here}
 use Rattle.group_protocol.specs.Known.{Known, Response}
-use Rattle.group_protocol.specs.Packets.{to_all, to_one, Packet}
+use Rattle.group_protocol.specs.Packets.{to_all, to_one}
 use Rattle.group_protocol.specs.Protocol.{on_message}
 use Rattle.group_protocol.specs.Pump.{pump}
 use Rattle.group_protocol.specs.States.{IsSize}
-use Rattle.group_node.specs.States.{input}
 use Rattle.group_protocol.specs.Tick.{on_tick}
 use Rattle.group_world.specs.Event.{LeadsBy, kept_event}
-use Rattle.group_world.specs.Group.{messages_in, new_world, up_of, world_state, World}
+use Rattle.group_world.specs.Group.{messages_in, new_world, world_state, World}
 use Rattle.group_world.specs.Headline.{HasLearned}
 use Rattle.group_world.specs.KeyLog.{ballot, key_after, key_events, key_log, typed_letter, letter_value, node_1, node_2, node_3, promised_record, voted_record}
 use Rattle.group_world.specs.Member.{Member}
-use Rattle.group_world.specs.Processes.{AreEventsOf, IsLog, after_log}
+use Rattle.group_world.specs.Processes.{AreEventsOf, IsLog}
 use Rattle.group_world.specs.Witness.{echoes, letter, letter_batch, one, shown_events, letter_program}
 use Rattle.group_world.specs.WrittenLogs.{started_times, three_nodes, node_in}
 use Rattle.group_world.proofs.ChainedSteps.{own_keys}
-use Rattle.group_world.proofs.SmallPrograms.{StepsLaw, WritesLetter, echoes_letter, ten_of, writes_letter}
-use Rattle.group_world.proofs.LoggedRuns.{◌▸◌, FitsIn, Ran, Said, campaigns, datagram_by, hears, message_by, numbered, presses, releases, runs, starts, stop, ticks, crashes, fails}
-use Rattle.group_world.proofs.OrderPossible.{are_bytes, ballot_fits as ballot_alone, me, node_fits}
+use Rattle.group_world.proofs.SmallPrograms.{StepsLaw, echoes_first, writes_letter}
+use Rattle.group_world.proofs.WrittenVotes.{has_learned}
+use Rattle.group_world.proofs.OrderPossible.{me}
 use Rattle.group_world.proofs.ProcessEvents.{events_lead}
 use Rattle.group_world.proofs.WorldAsGroup.{ReadLaw, stopped}
-use Rattle.group_world.proofs.WrittenLogs.{asking, campaigns_so, fresh, prepares, promised}
+use Rattle.group_world.proofs.WrittenLogs.{◌▸◌, FitsIn, Ran, Said, campaigns, datagram_by, hears, message_by, numbered, presses, releases, runs, starts, stop, ticks, crashes, fails, asking, campaigns_so, fresh, prepares, promised, unsaved}
 use Rattle.group_protocol.proofs.Elements.{entries_none, entries_one}
 use Rattle.group_world.specs.declared.event.Done.TheVariants.{Fell}
 use Rattle.group_world.specs.declared.event.Outcome.TheVariants.{FailedOld}
@@ -97,7 +95,7 @@ knows = record voter {
 -- ---- their calls
 
 abbrev quiet : Known → Response
-quiet n = record { node = n; saves = None; sends = [] }
+quiet n = unsaved n []
 
 abbrev promising : Me → Response
 promising me =
@@ -111,51 +109,17 @@ second_promise : on_message (leading half) 3 (Promise ballot 0 65536 []) ≡ qui
 unfolding pump
 second_promise = refl
 
-abbrev submitting : Response
-submitting = record { node = holds; saves = None; sends = to_all (Submit letter_value) ∷ to_all (Ask 0) ∷ [] }
-
-submits : on_tick holds ≡ submitting
-submits = rw entries_none refl
-
-abbrev offering : Response
-offering = record { node = offers; saves = None; sends = to_all (Accept ballot 0 letter_value) ∷ [] }
-
-submitted : on_message (leading whole) 2 (Submit letter_value) ≡ offering
+submitted : on_message (leading whole) 2 (Submit letter_value) ≡ unsaved offers (to_all (Accept ballot 0 letter_value) ∷ [])
 unfolding pump
 submitted = rw entries_none refl
 
-abbrev voting : Known → Response
-voting n = record {
-  node = record n { kept = voted_record };
-  saves = Some (change.Ballotted 0 ballot letter_value);
-  sends = to_all (Accepted ballot 0 letter_value) ∷ [];
+-- a node votes for the value, and has this record then
+abbrev voting : Known → Record → Value → Response
+voting n kept v = record {
+  node = record n { kept = kept };
+  saves = Some (change.Ballotted 0 ballot v);
+  sends = to_all (Accepted ballot 0 v) ∷ [];
 }
-
-second_votes : on_message holds 1 (Accept ballot 0 letter_value) ≡ voting holds
-second_votes = rw entries_none refl
-
-value_none : get no_values 0 ≡ None
-value_none = get-empty nat_cmp 0
-
-tally_none : get no_tallies 0 ≡ None
-tally_none = get-empty nat_cmp 0
-
-first_vote : on_message voter 2 (Accepted ballot 0 letter_value) ≡ quiet counts
-first_vote = rw (value_none, entries_none, tally_none) refl
-
-tally_one : get (insert no_tallies 0 tally) 0 ≡ Some tally
-tally_one = get_here no_tallies 0 tally
-
-second_vote : on_message counts 3 (Accepted ballot 0 letter_value) ≡ quiet knows
-second_vote = rw (value_none, entries_none, tally_one) refl
-
--- ---- its machine
-
-input_is : learned_input (insert no_values 0 letter_value) ≡ 65 ∷ []
-input_is = rw (entries_one 0 letter_value, get_here no_values 0 letter_value) refl
-
-writes : WritesLetter echoes (input knows)
-writes = rw input_is echoes_letter
 
 -- ---- what is sent
 
@@ -165,18 +129,8 @@ said =
     ∷ (2, to_all (Submit letter_value)) ∷ (2, to_all (Ask 0)) ∷ (1, to_all (Accept ballot 0 letter_value))
     ∷ (2, to_all (Accepted ballot 0 letter_value)) ∷ (3, to_all (Accepted ballot 0 letter_value)) ∷ []
 
-ballot_fits : IsBallot 3 ballot
-ballot_fits = ((omega arith, omega arith), (omega arith, omega arith))
-
-letter_fits : IsValue 3 letter_value
-letter_fits = (
-  (omega arith, omega arith),
-  (omega arith, omega arith),
-  (omega arith, omega arith, omega arith, omega arith, are_bytes (65 ∷ []) refl),
-)
-
 all_fit : All (FitsIn three_nodes) said
-all_fit = All-from_recursion (FitsIn three_nodes) said (search (arith, ballot_fits, letter_fits, own_keys))
+all_fit = All-from_recursion (FitsIn three_nodes) said (grind (arith, own_keys))
 
 -- ---- the group after each entry
 
@@ -197,22 +151,18 @@ module _ (steps : StepsLaw) (read : ReadLaw) where
       ▸ hears 1 (asking node_1 1) refl 1 2 (Promise ballot 0 65536 []) (quiet (leading half)) (number 3 1 _ refl) first_promise
       ▸ hears 1 (leading half) refl 2 3 (Promise ballot 0 65536 []) (quiet (leading whole)) (number 3 2 _ refl) second_promise
       ▸ presses 2 (promises node_2) refl 65 holds letter_value (omega arith) refl
-      ▸ ticks 2 holds refl submitting submits
-      ▸ hears 1 (leading whole) refl 3 2 (Submit letter_value) offering (number 5 3 _ refl) submitted
-      ▸ hears 2 holds refl 5 1 (Accept ballot 0 letter_value) (voting holds) (number 6 5 _ refl) second_votes
-      ▸ hears 3 (promises node_3) refl 5 1 (Accept ballot 0 letter_value) (voting (promises node_3)) (number 7 5 _ refl) refl
-      ▸ hears 3 voter refl 6 2 (Accepted ballot 0 letter_value) (quiet counts) (number 8 6 _ refl) first_vote
-      ▸ hears 3 counts refl 7 3 (Accepted ballot 0 letter_value) (quiet knows) (number 8 7 _ refl) second_vote
-      ▸ runs 3 knows writes steps refl
-      ▸ releases 3 knows writes refl
+      ▸ ticks 2 holds refl (unsaved holds (to_all (Submit letter_value) ∷ to_all (Ask 0) ∷ [])) (rw entries_none refl)
+      ▸ hears 1 (leading whole) refl 3 2 (Submit letter_value) _ (number 5 3 _ refl) submitted
+      ▸ hears 2 holds refl 5 1 (Accept ballot 0 letter_value) (voting holds voted_record letter_value)
+      (number 6 5 _ refl) (rw entries_none refl)
+      ▸ hears 3 (promises node_3) refl 5 1 (Accept ballot 0 letter_value) (voting (promises node_3) voted_record letter_value)
+      (number 7 5 _ refl) refl
+      ▸ hears 3 voter refl 6 2 (Accepted ballot 0 letter_value) (quiet counts) (number 8 6 _ refl) (simp (get-empty, entries_none))
+      ▸ hears 3 counts refl 7 3 (Accepted ballot 0 letter_value) (quiet knows) (number 8 7 _ refl)
+      (simp (get-empty, entries_none, get_here))
+      ▸ runs 3 knows (echoes_first 2 1) steps refl
+      ▸ releases 3 knows (echoes_first 2 1) refl
       ▸ stop
-
-  is_learned : HasLearned (world_state (key_after run.now)) 3 0 letter_value
-  is_learned = record {
-    node = up_of (record { known = knows; progress = record (ten_of echoes) { released = 1 } });
-    up = refl;
-    learned = get_here no_values 0 letter_value;
-  }
 
   pub a_key_log : (now : List Member) × IsLog (new_world echoes three_nodes) key_log now
       × AreEventsOf three_nodes [] key_log key_events
@@ -222,8 +172,8 @@ module _ (steps : StepsLaw) (read : ReadLaw) where
       × (map (λ m. m.console) now ≡ [] ∷ [] ∷ (65 ∷ []) ∷ [])
       × ((world_state (key_after now)).typed ≡ typed_letter ∷ []) × (length (key_after now).sent ≡ 8)
   a_key_log =
-      let (h, are) = run.lasts in
-      (run.now, h, are, events_lead key_log (new_world echoes three_nodes) run.now key_events h are, is_learned, refl, refl, refl, refl)
+      let events = events_lead key_log (new_world echoes three_nodes) run.now key_events run.is_log run.are_events in
+      (run.now, run.is_log, run.are_events, events, has_learned _ refl refl, refl, refl, refl, refl)
 
 -- ---- one node alone
 
@@ -255,11 +205,7 @@ knowing = record voting_alone {
 
 -- ---- its own calls
 
--- a call that saves nothing
-abbrev unsaved : Known → List Packet → Response
-unsaved n packets = record { node = n; saves = None; sends = packets }
-
-hears_promise : on_message (asking me 2) 1 (Promise ballot 0 65536 []) ≡ unsaved leading_alone []
+hears_promise : on_message (asking me 2) 1 (Promise ballot 0 65536 []) ≡ quiet leading_alone
 unfolding pump
 hears_promise = refl
 
@@ -271,29 +217,8 @@ hears_submit : on_message holding 1 (Submit letter_batch) ≡ unsaved offering_a
 unfolding pump
 hears_submit = rw (entries_none, entries_none) refl
 
-abbrev votes : Response
-votes = record {
-  node = voting_alone;
-  saves = Some (change.Ballotted 0 ballot letter_batch);
-  sends = to_all (Accepted ballot 0 letter_batch) ∷ [];
-}
-
-hears_accept : on_message offering_alone 1 (Accept ballot 0 letter_batch) ≡ votes
-hears_accept = rw entries_none refl
-
-value_one : get (insert no_values 0 letter_batch) 0 ≡ Some letter_batch
-value_one = get_here no_values 0 letter_batch
-
-hears_accepted : on_message voting_alone 1 (Accepted ballot 0 letter_batch) ≡ unsaved knowing []
-hears_accepted = rw (value_none, entries_none, tally_none, entries_one 0 letter_batch, value_one) refl
-
--- ---- its own machine
-
-input_alone : learned_input (insert no_values 0 letter_batch) ≡ 65 ∷ []
-input_alone = rw (entries_one 0 letter_batch, value_one) refl
-
-writes_alone : WritesLetter echoes (input knowing)
-writes_alone = rw input_alone echoes_letter
+hears_accepted : on_message voting_alone 1 (Accepted ballot 0 letter_batch) ≡ quiet knowing
+hears_accepted = simp (get-empty, entries_none, entries_one, get_here)
 
 -- ---- what it sends
 
@@ -302,15 +227,8 @@ said_alone =
     (1, to_all (Prepare ballot 0)) ∷ (1, to_one 1 (Promise ballot 0 65536 [])) ∷ (1, to_all (Submit letter_batch))
     ∷ (1, to_all (Ask 0)) ∷ (1, to_all (Accept ballot 0 letter_batch)) ∷ (1, to_all (Accepted ballot 0 letter_batch)) ∷ []
 
-letter_alone : IsValue 1 letter_batch
-letter_alone = (
-  node_fits,
-  (omega arith, omega arith),
-  (omega arith, omega arith, omega arith, omega arith, are_bytes (65 ∷ []) refl),
-)
-
 all_fit_alone : All (FitsIn one) said_alone
-all_fit_alone = All-from_recursion (FitsIn one) said_alone (search (arith, ballot_alone, letter_alone, own_keys))
+all_fit_alone = All-from_recursion (FitsIn one) said_alone (grind (arith, own_keys))
 
 -- ---- its own events
 
@@ -330,30 +248,24 @@ module _ (steps : StepsLaw) (read : ReadLaw) where
       ▸ campaigns 1 (fresh me (started_times 2)) refl (prepares me 2) (campaigns_so me 2)
       ▸ hears 1 (asking me 2) refl 0 1 (Prepare ballot 0) (unsaved (asking me 2) (to_one 1 (Promise ballot 0 65536 []) ∷ []))
       (number_alone 1 0 _ refl) refl
-      ▸ hears 1 (asking me 2) refl 1 1 (Promise ballot 0 65536 []) (unsaved leading_alone []) (number_alone 2 1 _ refl) hears_promise
+      ▸ hears 1 (asking me 2) refl 1 1 (Promise ballot 0 65536 []) (quiet leading_alone) (number_alone 2 1 _ refl) hears_promise
       ▸ presses 1 leading_alone refl 65 holding letter_batch (omega arith) refl
       ▸ ticks 1 holding refl _ submits_alone
       ▸ hears 1 holding refl 2 1 (Submit letter_batch) _ (number_alone 4 2 _ refl) hears_submit
-      ▸ hears 1 offering_alone refl 4 1 (Accept ballot 0 letter_batch) _ (number_alone 5 4 _ refl) hears_accept
-      ▸ hears 1 voting_alone refl 5 1 (Accepted ballot 0 letter_batch) (unsaved knowing []) (number_alone 6 5 _ refl) hears_accepted
-      ▸ runs 1 knowing writes_alone steps refl
-      ▸ releases 1 knowing writes_alone refl
+      ▸ hears 1 offering_alone refl 4 1 (Accept ballot 0 letter_batch) (voting offering_alone voted letter_batch)
+      (number_alone 5 4 _ refl) (rw entries_none refl)
+      ▸ hears 1 voting_alone refl 5 1 (Accepted ballot 0 letter_batch) (quiet knowing) (number_alone 6 5 _ refl) hears_accepted
+      ▸ runs 1 knowing (echoes_first 1 2) steps refl
+      ▸ releases 1 knowing (echoes_first 1 2) refl
       ▸ stop
-
-  abbrev last : World
-  last = after_log (new_world echoes one) run_alone.log run_alone.now
 
   pub may_show : (w : World) × LeadsBy (new_world echoes one) shown_events w
       × HasLearned (world_state w) 1 0 letter_batch × ((world_state w).typed ≡ letter ∷ [])
       × (((world_state w).seats 1).console ≡ 65 ∷ [])
   may_show = (
-    last,
-    events_lead run_alone.log (new_world echoes one) run_alone.now shown_events run_alone.lasts.0 run_alone.lasts.1,
-    record {
-      node = up_of (record { known = knowing; progress = record (ten_of echoes) { released = 1 } });
-      up = refl;
-      learned = get_here empty 0 letter_batch;
-    },
+    _,
+    events_lead run_alone.log (new_world echoes one) run_alone.now shown_events run_alone.is_log run_alone.are_events,
+    has_learned _ refl refl,
     refl,
     refl,
   )
@@ -385,10 +297,10 @@ bytes_are_possible steps =
       letter_program,
       three,
       shows 1 ++ shows 2,
-      after_log (new_world letter_program three) run.log run.now,
+      _,
       record { odd = refl; few = omega arith },
       omega arith,
-      events_lead run.log (new_world letter_program three) run.now (shows 1 ++ shows 2) run.lasts.0 run.lasts.1,
+      events_lead run.log (new_world letter_program three) run.now (shows 1 ++ shows 2) run.is_log run.are_events,
       refl,
       refl,
     )

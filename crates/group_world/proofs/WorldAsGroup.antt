@@ -1,8 +1,9 @@
 -- A world as a group, after one of its nodes has changed.
-use Rattle.std.proofs.lemmas.Option.{same_Some, slice_get-get_or, get_or_from_slice_get, slice_get_within}
+use Rattle.std.proofs.lemmas.Option.{slice_get-get_or, get_or_from_slice_get, slice_get_within}
 use Rattle.std.proofs.lemmas.List.{get_or-set_same, length-set, get_or-replicate, length-replicate}
-use Rattle.std.proofs.Common.{set, ◌≡◌, ◌≢◌, ◌∙◌, ℕ, zero, suc, ◌-◌, ◌<◌, ◌≤◌, All, List, [], ◌∷◌, ◌++◌, flat_map, length, slice_get, slice_set, replicate, None, Some, Ok, inl, inr, refl, sym, ap, subst, arith}
-use Rattle.std.proofs.lemmas.Bool.{cases_eq, eq-eqb, ne_eqb}
+use Rattle.std.proofs.Common.{set, ◌≡◌, ◌≢◌, ◌∙◌, ℕ, zero, suc, ◌-◌, ◌<◌, All, List, [], ◌∷◌, ◌++◌, flat_map, length, slice_get, slice_set, replicate, None, Some, Ok, refl, sym, ap, arith}
+use Rattle.std.proofs.lemmas.Bool.Decides.{nat_tests}
+use Rattle.std.proofs.lemmas.Bool.{cases_eq}
 use Rattle.std.proofs.lemmas.Grind.{flat_map-append}
 use Rattle.std.proofs.lemmas.List.Elements.{All-cons, All-head, All-nil, All-tail, filter_map-append}
 use Rattle.std.specs.List.{cons_option}
@@ -26,7 +27,7 @@ use Rattle.group_protocol.specs.Steps.{messages_handed_out}
 use Rattle.pcode_machine.specs.Runs.{after_steps, out}
 use Rattle.group_node.specs.World.{after_call, with_seat}
 use Rattle.group_world.specs.Group.{IsUp, me_of, member_at, messages_in, new_world, seat_of_member, with_member, World, world_state}
-use Rattle.group_world.proofs.CallLeaves.{world_after_call}
+use Rattle.group_world.proofs.CallLeaves.{is_at, world_after_call}
 use Rattle.group_world.specs.Member.{Member, member_after_call, Running}
 use Rattle.group_world.specs.Sound.{IsMemberSound, IsRunningSound, IsShown, IsSound, IsSpelling}
 
@@ -38,52 +39,37 @@ set_there xs k x low =
 
 set_elsewhere : {X : Type 0} (xs : List X) (k j : ℕ) (x : X) → j ≢ k → slice_get (slice_set xs k x) j ≡ slice_get xs j
 set_elsewhere [] k j x ne = refl
-set_elsewhere (y ∷ ys) zero zero x ne = absurd (ne refl)
-set_elsewhere (y ∷ ys) zero (suc j) x ne = refl
+set_elsewhere (y ∷ ys) zero j x ne = grind (arith, nat_tests)
 set_elsewhere (y ∷ ys) (suc k) zero x ne = refl
 set_elsewhere (y ∷ ys) (suc k) (suc j) x ne = set_elsewhere ys k j x (λ e. ne (ap suc e))
 
 -- ---- nodes by number
 
--- a node of the world
-member_within : (members : List Member) (i : ℕ) (m : Member) → member_at members i ≡ Some m → (0 < i) × (i ≤ length members)
-member_within members zero m e = absurd cc
-member_within members (suc k) m e = (omega arith, omega (arith, slice_get_within members k m e))
-
 pub changed_here : (members : List Member) (i : ℕ) (m new : Member) → member_at members i ≡ Some m
     → member_at (slice_set members (i - 1) new) i ≡ Some new
 changed_here members zero m new e = absurd cc
 changed_here members (suc k) m new e =
-    let same : suc k - 1 ≡ k = omega arith in
-    subst (λ j. slice_get (slice_set members j new) k ≡ Some new) (sym same) (set_there members k new (slice_get_within members k m e))
+    let same : suc k - 1 ≡ k = omega arith in rw same (set_there members k new (slice_get_within members k m e))
 
 pub changed_elsewhere : (members : List Member) (i j : ℕ) (m new : Member) → member_at members i ≡ Some m → j ≢ i
     → member_at (slice_set members (i - 1) new) j ≡ member_at members j
 changed_elsewhere members i zero m new e ne = refl
 changed_elsewhere members zero (suc l) m new e ne = absurd cc
 changed_elsewhere members (suc k) (suc l) m new e ne =
-    let same : suc k - 1 ≡ k = omega arith in
-    subst (λ j. slice_get (slice_set members j new) l ≡ slice_get members l) (sym same)
-    (set_elsewhere members k l new (λ f. ne (ap suc f)))
+    let same : suc k - 1 ≡ k = omega arith in rw same (set_elsewhere members k l new (λ f. ne (ap suc f)))
 
 -- what holds of each node after node `i` has changed
 pub each_changed : (members : List Member) (i : ℕ) (m new : Member) → member_at members i ≡ Some m → (P : ℕ → Member → Type 0) → P i new
     → ((j : ℕ) (other : Member) → j ≢ i → member_at members j ≡ Some other → P j other) → (j : ℕ) (x : Member)
     → member_at (slice_set members (i - 1) new) j ≡ Some x → P j x
-each_changed members i m new there P own others j x e = elim (cases_eq j i) [
-  | inl same ↦
-      let here = rw same at e in
-      rw same (subst (P i) (same_Some new x (sym (changed_here members i m new there) ∙ here)) own)
-  | inr ne ↦ others j x ne (sym (changed_elsewhere members i j m new there ne) ∙ e)
-]
+each_changed members i m new there P own others j x e =
+    grind (arith, nat_tests, cases_eq j i, changed_here members i m new there, changed_elsewhere members i j m new there)
 
 -- the seats of the world are those of the group with one seat changed
 seats_changed : (w : World) (i : ℕ) (m new : Member) → member_at w.members i ≡ Some m → (j : ℕ)
     → seat_of_member (member_at (slice_set w.members (i - 1) new) j) ≡ (with_seat (world_state w) i (seat_of_member (Some new))).seats j
-seats_changed w i m new e j = elim (cases_eq j i) [
-  | inl same ↦ rw (eq-eqb j i same, same) (ap seat_of_member (changed_here w.members i m new e))
-  | inr ne ↦ rw (ne_eqb j i ne) (ap seat_of_member (changed_elsewhere w.members i j m new e ne))
-]
+seats_changed w i m new e j =
+    grind (arith, nat_tests, cases_eq j i, changed_here w.members i m new e, changed_elsewhere w.members i j m new e)
 
 -- ---- what datagrams spell
 
@@ -163,8 +149,7 @@ running {w} {i} {m} {q} h up = rw up.up at (h.members i m up.there).running
 -- a node of the world has a number of the group
 pub is_node : {w : World} {m : Member} (i : ℕ) → IsSound w → member_at w.members i ≡ Some m → IsNode w.group.size i
 is_node {w} {m} i h e =
-    let within = member_within w.members i m e in
-    (within.0, omega (arith, within.1, h.places))
+    let at = is_at w.members i m e in (at.0, omega (arith, slice_get_within w.members (i - 1) m at.1, h.places))
 
 -- a node that is down, and has shown nothing
 abbrev pub stopped : Record → Member

@@ -1,50 +1,48 @@
--- Logs that are written down by hand, entry by entry: what each entry leaves, and what it says
--- where it is one of a log.
-use Rattle.std.proofs.Common.{◌≡◌, ℕ, ◌+◌, ◌<◌, List, [], ◌∷◌, None, Some, refl, ap, subst}
-use Rattle.std.proofs.lemmas.List.Elements.{All-from_recursion}
-use Rattle.std.specs.List.{AllByRecursion}
+-- Logs that are written down by hand with their events, entry by entry: what a node does that has
+-- heard nothing, what each entry leaves, and that the messages are read again which nodes have sent.
+use Rattle.std.proofs.Common.{◌≡◌, ◌∙◌, ℕ, ◌+◌, ◌<◌, All, List, [], ◌∷◌, map, slice_get, take, Option, None, Some, refl, sym, ap}
+use Rattle.std.proofs.lemmas.List.Elements.{All-head, All-tail, All-take}
+use Rattle.std.specs.List.{cons_option}
 use Rattle.pcode_file.specs.Parts.{Parts}
-use Rattle.paxos_msg.specs.declared.message.Body.TheVariants.{Ask, Prepare}
-use Rattle.paxos_msg.specs.declared.record.Change.TheVariants as change
-use Rattle.paxos_msg.specs.declared.value.Value.TheVariants.{Keys}
-use Rattle.paxos_msg.specs.Batches.{Body, Record}
+use Rattle.paxos_msg.specs.declared.message.Group.{Group}
+use Rattle.paxos_msg.specs.declared.value.Value.{Value}
+use Rattle.paxos_msg.specs.Batches.{Body, Msg, Record}
 use Rattle.paxos_msg.specs.Bodies.{IsBody}
 use Rattle.paxos_msg.specs.Fits.{IsGroup, IsNode}
+use Rattle.group_node.specs.Deeds.{Deed}
+use Rattle.group_protocol.specs.Known.{Known, Response, on_start}
+use Rattle.group_node.specs.Output.{Progress, no_progress}
+use Rattle.group_protocol.specs.Packets.{Datagram, Packet, datagram_of, to_all}
+use Rattle.group_protocol.specs.Protocol.{on_message}
+use Rattle.group_node.specs.States.{input}
+use Rattle.group_protocol.specs.Tick.{on_tick}
+use Rattle.group_world.specs.declared.event.Act.{Act}
+use Rattle.group_world.specs.declared.event.Done.TheVariants.{Applied}
+use Rattle.group_world.specs.declared.event.Event.{Event}
+use Rattle.group_world.specs.declared.event.Outcome.{Outcome}
+use Rattle.group_world.specs.declared.event.Outcome.TheVariants.{Kept}
+use Rattle.group_world.specs.Deeds.{DoesDeed, quietly, EndsCall, Left}
+use Rattle.group_world.specs.Event.{IsDeedOf, kept_event, node_of}
+use Rattle.group_world.specs.Group.{World, me_of, member_at, messages_in, message_of}
+use Rattle.group_world.specs.Member.{Makes, Member, call_of_campaign, call_of_press, member_after_call, member_after_release, call_of_start, NodeCall, RunsMember}
+use Rattle.group_world.specs.Processes.{AreEventsOf, DoesEntry, Entry, IsLog}
+use Rattle.group_world.specs.WrittenLogs.{entry_with, hear_entry, node_in, press_entry, quiet_entry, start_after, started_times, first_ballot}
+use Rattle.group_world.proofs.CallLeaves.{kept_call}
+use Rattle.group_world.proofs.SmallPrograms.{StepsLaw, WritesLetter, replays, runs as runs_on, ten_of, waits}
+use Rattle.group_world.proofs.HoldsAfterEvents.{heard_by}
+use Rattle.group_world.proofs.ProcessEvents.{log_before, moved, no_log}
+use Rattle.group_world.proofs.WorldAsGroup.{ReadLaw, packet_read, stopped}
+use Rattle.paxos_msg.specs.declared.message.Body.TheVariants.{Ask, Prepare}
 use Rattle.paxos_acceptor.specs.declared.me.Me.{Me}
 use Rattle.paxos_proposer.specs.Proposer.{new_proposer}
 use Rattle.paxos_learner.specs.Learner.{new_learner}
-use Rattle.group_node.specs.Deeds.{Campaign, Crash, Tick}
-use Rattle.group_protocol.specs.Known.{Known, Response, on_start}
-use Rattle.group_node.specs.Output.{Progress, no_progress}
-use Rattle.group_protocol.specs.Packets.{Packet, datagrams_of, to_all}
-use Rattle.group_protocol.specs.Protocol.{on_message}
-use Rattle.group_protocol.specs.Steps.{messages_handed_out}
-use Rattle.group_protocol.specs.Tick.{on_tick}
-use Rattle.group_world.specs.Group.{World, me_of, member_at, messages_in}
-use Rattle.group_world.specs.Member.{Makes, Member, call_of_campaign, call_of_start, member_after_call}
-use Rattle.group_world.specs.Processes.{DoesEntry, Entry, IsLog}
-use Rattle.group_world.specs.declared.event.Done.TheVariants.{Applied}
-use Rattle.group_world.specs.Event.{HearsOf}
-use Rattle.group_world.proofs.CallLeaves.{kept_call}
-use Rattle.group_world.specs.WrittenLogs.{entry_with, first_ballot, hear_entry, press_entry, quiet_entry, start_after, started_times}
-use Rattle.group_world.proofs.ProcessEvents.{log_before, log_first, moved, no_log}
-use Rattle.group_world.proofs.WorldAsGroup.{ReadLaw, packets_read, stopped}
 use Rattle.group_protocol.proofs.Elements.{entries_none}
+use Rattle.group_node.specs.Deeds as deed
+use Rattle.group_node.specs.declared.player.Ran.TheVariants as more
+use Rattle.group_world.specs.declared.event.Act.TheVariants as act
+use Rattle.paxos_msg.specs.declared.record.Change.TheVariants as change
 
--- ---- a log, entry by entry
-
--- the claim that entries are a log of some nodes
-abbrev pub Logs : World → List Entry → Type 0
-Logs w log = (now : List Member) × IsLog w log now
-
-pub logs_none : (w : World) → Logs w []
-logs_none w = (w.members, (no_log w w refl).0)
-
-pub logs_before : (w : World) (e : Entry) (log : List Entry) (m new : Member) → member_at w.members e.node ≡ Some m
-    → DoesEntry w.program (me_of w e.node) m e new → HearsOf w.group w.sent e.deed → Logs (moved w e new) log → Logs w (e ∷ log)
-logs_before w e log m new there does heard (now, h) = (now, log_before w e log now m new there does heard h)
-
--- ---- what an entry leaves
+-- ---- nodes
 
 -- a node that is up
 abbrev pub up : Known → Progress → List ℕ → Member
@@ -63,67 +61,6 @@ fresh me kept = record {
   first = 1;
 }
 
--- a node hears a message
-pub hear_does : (p : Parts) (me : Me) (n : Known) (progress : Progress) (console : List ℕ) (sender : ℕ) (body : Body) (made : Response)
-    → on_message n sender body ≡ made
-    → DoesEntry p me (up n progress console) (hear_entry me sender body made.sends) (member_after_call made console progress)
-hear_does p me n progress console sender body made e =
-    (Applied, (_, refl, kept_call me (up n progress console) progress _ made [] (ap (λ x. Makes x []) e)))
-
--- it starts
-abbrev pub Spare : Me → ℕ → Type 0
-Spare me n = call_of_start me (started_times n) ≡ Makes (on_start me (started_times n)) []
-
-pub start_does : (p : Parts) (me : Me) (n : ℕ) → Spare me n
-    → DoesEntry p me (stopped (started_times n)) (start_after me n)
-    (up (fresh me (started_times (n + 1))) (no_progress p) [])
-start_does p me n spare =
-    (Applied, (refl, refl, kept_call me (stopped (started_times n)) (no_progress p) _ (on_start me (started_times n)) [] spare))
-
--- a node that has heard nothing ticks, and hears another ask
-pub ticks_so : (me : Me) (kept : Record)
-    → on_tick (fresh me kept) ≡ record { node = fresh me kept; saves = None; sends = to_all (Ask 0) ∷ [] }
-ticks_so me kept = rw entries_none refl
-
-pub tells_so : (me : Me) (kept : Record) (other : ℕ)
-    → on_message (fresh me kept) other (Ask 0) ≡ record { node = fresh me kept; saves = None; sends = [] }
-tells_so me kept other = rw entries_none refl
-
-module _ (p : Parts) (me : Me) (kept : Record) (progress : Progress) (console : List ℕ) where
-  -- a node that has heard nothing ticks
-  pub tick_does : DoesEntry p me (up (fresh me kept) progress console) (entry_with me Tick (to_all (Ask 0) ∷ []))
-      (up (fresh me kept) progress console)
-  tick_does = (
-    Applied,
-    (
-      _,
-      refl,
-      kept_call me (up (fresh me kept) progress console) progress _
-          (record { node = fresh me kept; saves = None; sends = to_all (Ask 0) ∷ [] }) [] (ap (λ made. Makes made []) (ticks_so me kept)),
-    ),
-  )
-
-  -- it takes a byte
-  pub press_does : (byte : ℕ) → byte < 256
-      → DoesEntry p me (up (fresh me kept) progress console) (press_entry me byte (Keys me.node kept.starts 1 (byte ∷ [])))
-      (up (record (fresh me kept) { waiting = byte ∷ [] }) progress console)
-  press_does byte low = (
-    Applied,
-    (
-      _,
-      refl,
-      low,
-      kept_call me (up (fresh me kept) progress console) progress _
-          (record { node = record (fresh me kept) { waiting = byte ∷ [] }; saves = None; sends = [] })
-          (Keys me.node kept.starts 1 (byte ∷ []) ∷ []) refl,
-    ),
-  )
-
-  -- it crashes
-  pub crash_does : (n : Known) → DoesEntry p me (up n progress console) (quiet_entry me Crash)
-      (record { kept = n.kept; console = console; node = None })
-  crash_does n = (Applied, (_, refl, refl))
-
 -- a node that has promised a ballot, and one that has begun its own
 abbrev pub promised : ℕ → ℕ → Record
 promised starts i = record (started_times starts) { promised = Some (first_ballot i) }
@@ -132,7 +69,19 @@ abbrev pub asking : Me → ℕ → Known
 asking me starts =
     record (fresh me (promised starts me.node)) { proposer = Some (new_proposer (first_ballot me.node) 0 me.group.size) }
 
--- a node that has heard nothing campaigns
+-- ---- the calls of a node that has heard nothing
+
+-- a call that saves nothing
+abbrev pub unsaved : Known → List Packet → Response
+unsaved n packets = record { node = n; saves = None; sends = packets }
+
+-- it ticks, hears another ask, and campaigns
+pub ticks_so : (me : Me) (kept : Record) → on_tick (fresh me kept) ≡ unsaved (fresh me kept) (to_all (Ask 0) ∷ [])
+ticks_so me kept = rw entries_none refl
+
+pub tells_so : (me : Me) (kept : Record) (other : ℕ) → on_message (fresh me kept) other (Ask 0) ≡ unsaved (fresh me kept) []
+tells_so me kept other = rw entries_none refl
+
 abbrev pub prepares : Me → ℕ → Response
 prepares me starts = record {
   node = asking me starts;
@@ -143,35 +92,164 @@ prepares me starts = record {
 pub campaigns_so : (me : Me) (starts : ℕ) → call_of_campaign (fresh me (started_times starts)) ≡ Makes (prepares me starts) []
 campaigns_so me starts = rw entries_none refl
 
-module _ (p : Parts) (me : Me) (starts : ℕ) (progress : Progress) (console : List ℕ) where
-  pub campaign_does : DoesEntry p me (up (fresh me (started_times starts)) progress console)
-      (entry_with me Campaign (to_all (Prepare (first_ballot me.node) 0) ∷ [])) (up (asking me starts) progress console)
-  campaign_does = (
-    Applied,
-    (
-      _,
-      refl,
-      kept_call me (up (fresh me (started_times starts)) progress console) progress _ (prepares me starts) [] (campaigns_so me starts),
-    ),
-  )
+-- ---- an entry and its event, one after the other
 
--- ---- what was sent
+-- an entry that is this event, and leaves `new` of its node
+pub record Enters (w : World) (e : Entry) (x : Event) (new : Member) : Type 0 where
+  pub was : Member
+  pub there : member_at w.members e.node ≡ Some was
+  pub does : DoesEntry w.program (me_of w e.node) was e new
+  pub is_deed : IsDeedOf (messages_in w.group w.sent) x.act e.deed
+  pub at : node_of x.act ≡ e.node
+  pub saved : x.save ≡ e.save
 
--- the messages of these packets, where they have spellings
-pub sent_read : ReadLaw → (me : Me) (packets : List Packet) → IsGroup me.group → IsNode me.group.size me.node
-    → AllByRecursion (λ packet. IsBody me.group.size me.node packet.body) packets
-    → messages_in me.group (datagrams_of me packets) ≡ messages_handed_out me.node packets
-sent_read read me packets session node fits =
-    (packets_read read me session node packets (All-from_recursion (λ packet. IsBody me.group.size me.node packet.body) packets fits)).1
+-- a log of a group that has these events
+pub record Ran (w : World) (events : List Event) : Type 0 where
+  pub log : List Entry
+  pub now : List Member
+  pub is_log : IsLog w log now
+  pub are_events : AreEventsOf w.group w.sent log events
 
--- ---- what a log says of its first entry
+-- an entry and those after it, and no entries
+infixr 30 ◌▸◌
+abbrev pub ◌▸◌ : {w : World} {e : Entry} {new : Member} {x : Event} {events : List Event} → Enters w e x new → Ran (moved w e new) events
+    → Ran w (x ∷ events)
+◌▸◌ {w} {e} {new} {x} {events} step rest = record {
+  log = e ∷ rest.log;
+  now = rest.now;
+  is_log =
+      log_before w e rest.log rest.now step.was new step.there step.does (heard_by w.group w.sent x.act e.deed step.is_deed) rest.is_log;
+  are_events = (x ∷ [], events, (step.is_deed, step.at, step.saved, refl), rest.are_events, refl);
+}
 
--- the world after the first start of a node
-abbrev pub started : World → ℕ → World
-started w i = moved w (start_after (me_of w i) 0) (up (fresh (me_of w i) (started_times 1)) (no_progress w.program) [])
+abbrev pub stop : {w : World} → Ran w []
+stop {w} = record { log = []; now = w.members; is_log = (no_log w w refl).0; are_events = refl }
 
-pub after_start : (w : World) (i : ℕ) (log : List Entry) (now : List Member) → member_at w.members i ≡ Some (stopped (started_times 0))
-    → IsLog w (start_after (me_of w i) 0 ∷ log) now → IsLog (started w i) log now
-after_start w i log now there h =
-    let (new, does, rest) = log_first w (start_after (me_of w i) 0) log now (stopped (started_times 0)) there h in
-    subst (λ m. IsLog (moved w (start_after (me_of w i) 0) m) log now) does.1.2.left rest
+-- the log with its nodes
+abbrev pub made : {w : World} {events : List Event} → (run : Ran w events) → (now : List Member) × IsLog w run.log now
+made run = (run.now, run.is_log)
+
+-- ---- the entries of a node
+
+-- a node whose machine has made ten steps, and one that has then released the letter
+abbrev pub ran : Parts → Known → Member
+ran p n = up n (ten_of p) []
+
+abbrev pub shown : Parts → Known → Member
+shown p n = member_after_release (ran p n) (record { known = n; progress = ten_of p }) (Some 65)
+
+-- a node starts
+abbrev pub Spare : Me → ℕ → Type 0
+Spare me n = call_of_start me (started_times n) ≡ Makes (on_start me (started_times n)) []
+
+module _ {w : World} (i : ℕ) where
+  -- a start whose save fails, or is kept
+  pub fails : (n : ℕ) (save : Outcome) (new : Member) → member_at w.members i ≡ Some (stopped (started_times n))
+      → DoesEntry w.program (me_of w i) (stopped (started_times n)) (record (start_after (me_of w i) n) { save = save }) new
+      → Enters w (record (start_after (me_of w i) n) { save = save }) (record { act = act.Start i; save = save }) new
+  fails n save new there does = record {
+    was = stopped (started_times n);
+    there = there;
+    does = does;
+    is_deed = (started_times n, refl);
+    at = refl;
+    saved = refl;
+  }
+
+  pub starts : (n : ℕ) → member_at w.members i ≡ Some (stopped (started_times n)) → Spare (me_of w i) n
+      → Enters w (start_after (me_of w i) n) (kept_event (act.Start i))
+      (up (fresh (me_of w i) (started_times (n + 1))) (no_progress w.program) [])
+  starts n there spare =
+      let kept : Record = started_times n in
+      fails n Kept _ there
+      (Applied, (refl, refl, kept_call (me_of w i) (stopped kept) (no_progress w.program) _ (on_start (me_of w i) kept) [] spare))
+
+  module _ {progress : Progress} {console : List ℕ} (n : Known) (there : member_at w.members i ≡ Some (up n progress console)) where
+    -- a deed whose save, if it makes one, is kept
+    pub acts : (d : Deed) (a : Act) (packets : List Packet) (typed : List Value) (new : Member)
+        → DoesEntry w.program (me_of w i) (up n progress console) (record (entry_with (me_of w i) d packets) { typed = typed }) new
+        → IsDeedOf (messages_in w.group w.sent) a d → node_of a ≡ i
+        → Enters w (record (entry_with (me_of w i) d packets) { typed = typed }) (kept_event a) new
+    acts d a packets typed new does is_deed at =
+        record { was = up n progress console; there = there; does = does; is_deed = is_deed; at = at; saved = refl }
+
+    -- a call
+    calls : (d : Deed) (a : Act) (call : NodeCall) (made : Response) (typed : List Value) → call ≡ Makes made typed
+        → ((left : Left) → EndsCall (me_of w i) (up n progress console) progress None call left
+        → DoesDeed w.program (me_of w i) (up n progress console) None d left)
+        → IsDeedOf (messages_in w.group w.sent) a d → node_of a ≡ i
+        → Enters w (record (entry_with (me_of w i) d made.sends) { typed = typed }) (kept_event a) (member_after_call made console progress)
+    calls d a call made typed e does =
+        acts d a made.sends typed _ (Applied, does _ (kept_call (me_of w i) (up n progress console) progress call made typed e))
+
+    pub hears : (k sender : ℕ) (body : Body) (made : Response)
+        → slice_get (messages_in w.group w.sent) k ≡ Some (record { sender = sender; body = body }) → on_message n sender body ≡ made
+        → Enters w (hear_entry (me_of w i) sender body made.sends) (kept_event (act.Deliver k i)) (member_after_call made console progress)
+    hears k sender body made number e =
+        calls _ (act.Deliver k i) _ made [] (ap (λ x. Makes x []) e) (λ left ends. (_, refl, ends)) (_, number, refl) refl
+
+    pub campaigns : (made : Response) → call_of_campaign n ≡ Makes made []
+        → Enters w (entry_with (me_of w i) deed.Campaign made.sends) (kept_event (act.Campaign i)) (member_after_call made console progress)
+    campaigns made e = calls deed.Campaign (act.Campaign i) _ made [] e (λ left ends. (_, refl, ends)) refl refl
+
+    pub ticks : (made : Response) → on_tick n ≡ made
+        → Enters w (entry_with (me_of w i) deed.Tick made.sends) (kept_event (act.Tick i)) (member_after_call made console progress)
+    ticks made e = calls deed.Tick (act.Tick i) _ made [] (ap (λ x. Makes x []) e) (λ left ends. (_, refl, ends)) refl refl
+
+    pub presses : (byte : ℕ) (new : Known) (v : Value) → byte < 256 → call_of_press n byte ≡ Makes (unsaved new []) (v ∷ [])
+        → Enters w (press_entry (me_of w i) byte v) (kept_event (act.Press i byte)) (up new progress console)
+    presses byte new v low e =
+        calls (deed.Press byte) (act.Press i byte) _ (unsaved new []) (v ∷ []) e (λ left ends. (_, refl, low, ends)) refl refl
+
+    pub crashes : Enters w (quiet_entry (me_of w i) deed.Crash) (kept_event (act.Crash i))
+        (record { kept = n.kept; console = console; node = None })
+    crashes = acts deed.Crash (act.Crash i) [] [] _ (Applied, (_, refl, refl)) refl refl
+
+  -- its machine runs, and the letter is released
+  module _ (n : Known) (h : WritesLetter w.program (input n)) where
+    pub runs : StepsLaw → member_at w.members i ≡ Some (up n (no_progress w.program) [])
+        → Enters w (quiet_entry (me_of w i) (deed.Run 10)) (kept_event (act.Run i 10)) (ran w.program n)
+    runs steps there =
+        let p : Parts = w.program in
+        let run : RunsMember (up n (no_progress p) []) (record { known = n; progress = no_progress p }) 10 (ran p n) =
+        record { progress = ten_of w.program; ran = more.More; runs = runs_on h steps; replay = replays h; new_is = refl } in
+        acts n there (deed.Run 10) (act.Run i 10) [] [] (ran w.program n) (Applied, (_, refl, run, refl)) refl refl
+
+    pub releases : member_at w.members i ≡ Some (ran w.program n)
+        → Enters w (quiet_entry (me_of w i) deed.Release) (kept_event (act.Release i)) (shown w.program n)
+    releases there =
+        let left =
+        λ (o : Option ℕ). quietly (member_after_release (ran w.program n) (record { known = n; progress = ten_of w.program }) o) in
+        acts n there deed.Release (act.Release i) [] [] (shown w.program n)
+        (Applied, (_, refl, ap left (ap (λ bytes. slice_get bytes 0) (sym (waits h))))) refl refl
+
+-- ---- what is sent
+
+-- a packet of a node, as datagram and as message
+abbrev pub Said : Type 0
+Said = ℕ × Packet
+
+abbrev pub datagram_by : Group → Said → Datagram
+datagram_by group x = datagram_of (node_in group x.0) x.1
+
+abbrev pub message_by : Said → Msg
+message_by x = record { sender = x.0; body = x.1.body }
+
+abbrev pub FitsIn : Group → Said → Type 0
+FitsIn group x = IsNode group.size x.0 × IsBody group.size x.0 x.1.body
+
+module _ (read : ReadLaw) (group : Group) (session : IsGroup group) where
+  -- each datagram is read as its message
+  pub reads : (xs : List Said) → All (FitsIn group) xs → messages_in group (map (datagram_by group) xs) ≡ map message_by xs
+  reads [] fits = refl
+  reads (x ∷ xs) fits =
+      let (node, body) = All-head (FitsIn group) x xs fits in
+      let first = packet_read read (node_in group x.0) session node x.1 body in
+      let is : message_of group (datagram_by group x) ≡ Some (message_by x) = first.0.read ∙ ap Some first.1 in
+      λ t. cons_option (is t) (reads xs (All-tail (FitsIn group) x xs fits) t)
+
+  -- the message with a number, of those sent first
+  pub numbered : (said : List Said) → All (FitsIn group) said → (sent k : ℕ) (m : Msg)
+      → slice_get (map message_by (take sent said)) k ≡ Some m
+      → slice_get (messages_in group (map (datagram_by group) (take sent said))) k ≡ Some m
+  numbered said fits sent k m is = ap (λ ms. slice_get ms k) (reads (take sent said) (All-take (FitsIn group) sent said fits)) ∙ is

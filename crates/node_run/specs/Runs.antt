@@ -8,7 +8,7 @@ use Rattle.paxos_acceptor.specs.Stores.{StoreKind}
 use Rattle.paxos_msg.specs.Batches.{Record}
 use Rattle.pcode_file.specs.Parts.{Parts}
 use Rattle.group_protocol.specs.declared.fault.NodeFault.TheVariants.{SerialSpent, Store}
-use Rattle.group_node.specs.declared.node.StartRefused.{StartRefused}
+use Rattle.group_protocol.specs.declared.start.StartRefused.{StartRefused}
 use Rattle.group_node.specs.Deeds.{Deed}
 use Rattle.group_node.specs.Output.{IsReplay}
 use Rattle.group_node.specs.States.{input}

@@ -1,9 +1,10 @@
 -- Blocks of words, word by word.
-use Rattle.std.proofs.Common.{◌≡◌, ℕ, zero, suc, ◌+◌, ◌-◌, ◌/◌, ◌<◌, ◌≤◌, true, List, [], ◌∷◌, ◌++◌, length, take, drop, Some, slice_get, Ok, refl, arith}
+use Rattle.std.proofs.Common.{◌≡◌, ℕ, zero, suc, ◌+◌, ◌-◌, ◌/◌, ◌<◌, ◌≤◌, true, List, [], ◌∷◌, ◌++◌, length, take, drop, Some, slice_get, Ok, refl, sym, ◌∙◌, arith}
 use Rattle.std.proofs.lemmas.Bool.Decides.{nat_tests}
 use Rattle.std.proofs.lemmas.List.{drop_at, length-take-le, length-drop, take-append-drop}
 use Rattle.std.proofs.lemmas.Option.{slice_get_within}
 use Rattle.std.proofs.Math.Nat.{zero-add, suc-add, sub-zero}
+use Rattle.base.proofs.Lists.{get_there, get_longer}
 use Rattle.pcode_frames.specs.Blocks.{block_of, with_block}
 use Rattle.pcode_frames.specs.Words.{live_word_at}
 use Rattle.pcode_machine.specs.Configuration.{State}
@@ -13,9 +14,7 @@ use Rattle.pcode_machine.specs.Blocks.{is_block, block_moved, block_loaded, bloc
 
 -- an element of the first of two lists, and of the second
 get_first : {A : Type 0} (xs ys : List A) (i : ℕ) → i < length xs → slice_get (xs ++ ys) i ≡ slice_get xs i
-get_first [] ys i h = absurd (omega arith)
-get_first (x ∷ xs) ys zero h = refl
-get_first (x ∷ xs) ys (suc i) h = get_first xs ys i (omega arith)
+get_first xs ys i h = let x = get_there xs i h in get_longer xs ys i x.0 x.1 ∙ sym x.1
 
 get_after : {A : Type 0} (xs ys : List A) (i : ℕ) → length xs ≤ i → slice_get (xs ++ ys) i ≡ slice_get ys (i - length xs)
 get_after [] ys i h = rw sub-zero refl
@@ -29,7 +28,7 @@ get_take (suc n) [] i h = refl
 get_take (suc n) (x ∷ xs) zero h = refl
 get_take (suc n) (x ∷ xs) (suc i) h = get_take n xs i (omega arith)
 
-get_drop : {A : Type 0} (n : ℕ) (xs : List A) (i : ℕ) → slice_get (drop n xs) i ≡ slice_get xs (n + i)
+pub get_drop : {A : Type 0} (n : ℕ) (xs : List A) (i : ℕ) → slice_get (drop n xs) i ≡ slice_get xs (n + i)
 get_drop zero xs i = rw zero-add refl
 get_drop (suc n) [] i = refl
 get_drop (suc n) (x ∷ xs) i = rw suc-add (get_drop n xs i)

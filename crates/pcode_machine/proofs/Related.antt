@@ -12,7 +12,7 @@ use Rattle.pcode_machine.specs.Execute.{made}
 use Rattle.pcode_machine.specs.Step.{HasEffect, FailsBy}
 
 -- why an effect stops the program: it is the normal end, or an error of the effect
-abbrev pub StopsWith : Effect → State → Stop → Type 0
+abbrev StopsWith : Effect → State → Stop → Type 0
 StopsWith x s Normal = x ≡ Finish
 StopsWith x s (Error e) = FailsBy x s e
 

@@ -1,5 +1,5 @@
 -- A step as a relation is a step of the function.
-use Rattle.std.proofs.Common.{◌≡◌, ◌↔◌, ℕ, List, Option, Some, None, Result, Ok, Err, refl, arith}
+use Rattle.std.proofs.Common.{◌≡◌, ◌↔◌, ℕ, List, Option, Some, None, Result, Ok, Err, refl, sym, ◌∙◌, arith}
 use Rattle.std.proofs.lemmas.Option.{slice_get_past}
 use Rattle.std.proofs.lemmas.Bool.Decides.{nat_tests}
 use Rattle.base.proofs.Lists.{get_none}
@@ -17,13 +17,13 @@ use Rattle.pcode_machine.specs.declared.turn.End.TheVariants as ends
 use Rattle.pcode_machine.specs.declared.turn.Stop.{Stop}
 use Rattle.pcode_machine.specs.declared.turn.Stop.TheVariants.{Normal, Error}
 use Rattle.pcode_machine.specs.declared.errors.ExecutionError.TheVariants.{BadAddress}
-use Rattle.pcode_machine.specs.Configuration.{State, Configuration}
+use Rattle.pcode_machine.specs.Configuration.{State, Configuration, current_of}
 use Rattle.pcode_machine.specs.Effects.{effect_of}
 use Rattle.pcode_machine.specs.Errors.{error_number}
 use Rattle.pcode_machine.specs.Execute.{execute}
 use Rattle.pcode_machine.specs.Transition.{Goes, Stops, Waiting, transition, pending, moved, decoded, after_effect, end_by}
 use Rattle.pcode_machine.specs.Step.{Moves, Acts, Step, StopsBy, StopsIn, Ends, Awaits}
-use Rattle.pcode_machine.proofs.Ways.{Went, Executed, Moved, went}
+use Rattle.pcode_machine.proofs.Ways.{Executed, Moved, went, one_decoded}
 use Rattle.pcode_machine.proofs.Related.{holds, goes, fails}
 
 -- an instruction is decoded exactly where it is
@@ -42,10 +42,6 @@ moved_stops : (dir : Direction) (x : List ℕ) (c : Configuration) (f : Frame) (
 moved_stops dir x c f t e = grind (arith, nat_tests)
 
 -- ---- an end by an instruction
-
-instruction_stops : (p : Parts) (c : Configuration) (f : Frame) (i : Instr) (j : ℕ) (e : End) → StopsBy p c f i j e
-    → after_effect c f (execute p f i j c.state) ≡ Stops e
-instruction_stops p c f i j e h = grind (arith, nat_tests, fails)
 
 after_stops : (c : Configuration) (f : Frame) (o : Option (Result State Stop)) (e : End) → after_effect c f o ≡ Stops e
     → (stop : Stop) × (o ≡ Some (Err stop)) × (e ≡ end_by stop f c.state.next)
@@ -70,19 +66,29 @@ module _ (p : Parts) (known : Decodes p.segment) (x : List ℕ) (c : Configurati
   in_transfer : (f : Frame) (d : Configuration) {k o : Option Transfer} → k ≡ o → Acts p x c f o d → Acts p x c f k d
   in_transfer f d e h = rw e h
 
-  step_by : (d : Configuration) → Went p x c d → Step p x c d
-  step_by d (Executed f i j at made is) =
-      let h = rw made at (holds (effect_of p f i j c.state) j c.state) in
-      (f, at.current, in_transfer f d at.idle (i, j, d.state, (known c.state.next i j).0 at.decoded, h, is))
-  step_by d (Moved f t current at e) = (f, current, in_transfer f d at ((moved_goes t.direction x c f t d).0 e))
-
   pub is_step : (d : Configuration) → transition p x c ≡ Goes d → Step p x c d
-  is_step d e = step_by d (went p x c d e)
+  is_step d e = elim (went p x c d e) [
+    | Executed f i j at made is ↦
+        let h = rw made at (holds (effect_of p f i j c.state) j c.state) in
+        (f, at.current, in_transfer f d at.idle (i, j, d.state, (known c.state.next i j).0 at.decoded, h, is))
+    | Moved f t current at e ↦ (f, current, in_transfer f d at ((moved_goes t.direction x c f t d).0 e))
+  ]
+
+  -- an instruction that is next is the one that a step executes
+  pub executed : (d : Configuration) (i : Instr) (j : ℕ) → c.state.transfer ≡ None → At p.segment c.state.next i j → Step p x c d
+      → (f : Frame) × (current_of c.state.frames ≡ Some f) × (execute p f i j c.state ≡ Some (Ok d.state))
+      × (d ≡ record c { state = d.state })
+  executed d i j idle at step = elim (went p x c d (step_is d step)) [
+    | Executed f k l here made is ↦
+        let same = one_decoded k i l j (sym here.decoded ∙ (known c.state.next i j).1 at) in
+        (f, here.current, rw (same.0, same.1) at made, is)
+    | Moved f t current there e ↦ absurd (cc)
+  ]
 
   -- ---- ends
 
   pending_stops : (f : Frame) (o : Option Transfer) (e : End) → StopsIn p c f o e → pending p x c f o ≡ Stops e
-  pending_stops f None e (i, j, at, h) = rw ((known c.state.next i j).1 at) (instruction_stops p c f i j e h)
+  pending_stops f None e (i, j, at, h) = rw ((known c.state.next i j).1 at) (grind (arith, nat_tests, fails))
   pending_stops f (Some t) e h = (moved_stops t.direction x c f t e).1 h
 
   pub end_is : (e : End) → Ends p c e → transition p x c ≡ Stops e

@@ -1,6 +1,7 @@
 -- Whole transfers, byte by byte.
 use Rattle.std.specs.Prelude.{nat_lt}
-use Rattle.std.proofs.Common.{◌≡◌, ◌≢◌, ℕ, zero, suc, ◌+◌, ◌-◌, ◌<◌, ◌≤◌, ◌==◌, if◌then◌else◌, Bool, true, false, IsSome, List, [], ◌∷◌, ◌++◌, length, drop, All, Option, Some, None, slice_get, inl, inr, ◌⊎◌, ◌∙◌, refl, sym, ap, subst, append_assoc, append-nil, arith, ℤ, pos, ◌+ℤ◌}
+use Rattle.std.proofs.Common.{◌≡◌, ◌≢◌, ℕ, zero, suc, ◌+◌, ◌-◌, ◌<◌, ◌≤◌, ◌==◌, if◌then◌else◌, Bool, true, false, IsSome, List, [], ◌∷◌, ◌++◌, length, drop, All, Option, Some, None, slice_get, ◌⊎◌, ◌∙◌, refl, sym, ap, subst, append_assoc, append-nil, arith, ℤ, pos, ◌+ℤ◌}
+use Rattle.std.proofs.Math.Nat.{add-zero}
 use Rattle.std.proofs.lemmas.Bool.Decides.{nat_tests}
 use Rattle.std.proofs.lemmas.Int.{ints}
 use Rattle.std.proofs.lemmas.List.Elements.{All-head, All-tail}
@@ -15,6 +16,8 @@ use Rattle.pcode_machine.specs.Transition.{Goes, transition, written, taken}
 use Rattle.pcode_machine.specs.Runs.{GoesIn}
 use Rattle.pcode_machine.specs.Transfers.{rest_of}
 use Rattle.pcode_machine.specs.WholeTransfers.{HoldsBytes, HasBytes, TakesBytes}
+use Rattle.pcode_machine.proofs.BlockWords.{get_drop}
+use Rattle.pcode_machine.proofs.Live.{some_is}
 
 -- ---- what is left of a transfer
 
@@ -99,10 +102,7 @@ module _ (got : (live : List ℕ) (a : ℤ) (b : ℕ) → b < 256 → IsSome (li
   -- what is live stays live
   still_live : (live : List ℕ) (a c : ℤ) (b : ℕ) → b < 256 → IsSome (live_byte_at live a) → IsSome (live_byte_at live c)
       → IsSome (live_byte_at (with_byte live a b) c)
-  still_live live a c b small here there = elim (same_place c a) [
-    | inl same ↦ rw (same, got live a b small here) refl
-    | inr other ↦ rw (apart live a c b small other) there
-  ]
+  still_live live a c b small here there = grind (arith, same_place c a, got live a b small here, apart live a c b small)
 
   live_after : (live : List ℕ) (a : ℤ) (b n : ℕ) → b < 256 → HasBytes live a (suc n) → HasBytes (with_byte live a b) (a +ℤ pos 1) n
   live_after live a b n small h = record {
@@ -157,20 +157,9 @@ no_echo false output = refl
 pub same_parts : (s t : State) (m n : ℕ) (o q : List ℕ) → s ≡ t → m ≡ n → o ≡ q → configuration_of s m o ≡ configuration_of t n q
 same_parts s t m n o q a b c = rw (a, b, c) refl
 
--- what is some is a byte
-some_byte : (live : List ℕ) (a : ℤ) → IsSome (live_byte_at live a) → (b : ℕ) × (live_byte_at live a ≡ Some b)
-some_byte live a some = grind (arith, nat_tests)
-
--- the next byte of an input
-at_next : (x : List ℕ) (n b : ℕ) (rest : List ℕ) → drop n x ≡ b ∷ rest → slice_get x n ≡ Some b
-at_next [] zero b rest e = absurd cc
-at_next [] (suc n) b rest e = absurd cc
-at_next (y ∷ x) zero b rest e = cc
-at_next (y ∷ x) (suc n) b rest e = at_next x n b rest e
-
 -- the next byte of an input, and what follows it
 next_byte : (x : List ℕ) (n b : ℕ) (rest : List ℕ) → drop n x ≡ b ∷ rest → (slice_get x n ≡ Some b) × (drop (n + 1) x ≡ rest)
-next_byte x n b rest e = (at_next x n b rest e, sym (drop_next n x b rest e))
+next_byte x n b rest e = (sym (rw (e, add-zero) at (get_drop n x 0)), sym (drop_next n x b rest e))
 
 module _ (p : Parts) (x : List ℕ) where
   in_step : (c : Configuration) (f : Frame) (t : Transfer) (old b : ℕ) → current_of c.state.frames ≡ Some f → c.state.transfer ≡ Some t
@@ -197,14 +186,14 @@ module _ (p : Parts) (x : List ℕ) where
         same_parts (record c.state { transfer = left_after t 0 }) c.state (c.read + 0) c.read _ c.output
         (rw (rest_none t some, ← pending) refl) (omega arith) (no_echo (t.unit == 1) c.output)
     bytes_in f (b ∷ []) rest c t current pending way few small held next some =
-        let there = some_byte c.state.words t.address (rw address_here at (held.each 0 (omega arith))) in
+        let there = some_is (live_byte_at c.state.words t.address) (rw address_here at (held.each 0 (omega arith))) in
         (taken c t b, in_step c f t there.0 b current pending way there.1 (next_byte x c.read b rest next).0, refl)
     bytes_in f (b ∷ other ∷ bytes) rest c t current pending way few small held next some =
         let left : Transfer = record t { address = t.address +ℤ pos 1; left = t.left - 1 } in
         let more : 1 < t.left = omega arith in
         let goes_on : rest_of t ≡ Some left = grind (arith, nat_tests) in
         let fits = All-head (λ b. b < 256) b (other ∷ bytes) small in
-        let there = some_byte c.state.words t.address (rw address_here at (held.each 0 (omega arith))) in
+        let there = some_is (live_byte_at c.state.words t.address) (rw address_here at (held.each 0 (omega arith))) in
         let now = next_byte x c.read b (other ∷ bytes ++ rest) next in
         let after =
         bytes_in f (other ∷ bytes) rest (taken c t b) left current goes_on way (omega arith)

@@ -5,7 +5,6 @@ use Rattle.pcode_file.specs.Parts.{Parts}
 use Rattle.pcode_ops.specs.declared.instr.Instr.TheVariants.{Csp}
 use Rattle.pcode_ops.specs.declared.instr.StandardProcedure.{StandardProcedure}
 use Rattle.pcode_ops.specs.declared.instr.StandardProcedure.TheVariants.{UnitRead, UnitWrite}
-use Rattle.pcode_frames.specs.declared.frame.Frame.{Frame}
 use Rattle.pcode_frames.specs.Words.{live_byte_at, with_byte}
 use Rattle.pcode_machine.specs.declared.turn.Direction.{Direction}
 use Rattle.pcode_machine.specs.declared.turn.Direction.TheVariants.{Reading, Writing}
@@ -14,15 +13,12 @@ use Rattle.pcode_machine.specs.Bytes.{byte_address}
 use Rattle.pcode_machine.specs.Configuration.{Configuration, current_of}
 use Rattle.pcode_machine.specs.Transition.{Goes, transition}
 use Rattle.pcode_machine.specs.Runs.{GoesIn}
-use Rattle.pcode_machine.specs.Step.{Awaits, WaitsIn}
+use Rattle.pcode_machine.specs.Step.{Awaits}
 use Rattle.pcode_machine.specs.Transfers.{is_console, begun_transfer}
 use Rattle.pcode_machine.specs.WholeTransfers.{IsUnitCall, HoldsBytes, HasBytes, TakesBytes, GoesOnWith}
+use Rattle.pcode_machine.proofs.Live.{some_is}
 use Rattle.pcode_machine.proofs.Steps.{Decodes}
 use Rattle.pcode_machine.proofs.Transferring.{left_after, same_parts, no_echo, bytes_out, bytes_in, takes, live_behind, with_bytes, got_in}
-
--- what is some is a frame
-some_frame : (o : Option Frame) → IsSome o → (f : Frame) × (o ≡ Some f)
-some_frame o some = grind (arith, nat_tests)
 
 -- the transfer of some bytes
 begun_is : (way : Direction) (unit base index count at : ℕ) → IsTrue (is_console unit) → 0 < count → count < 32768
@@ -33,7 +29,7 @@ begun_is way unit base index count at console some few = grind (arith, nat_tests
 module _ (p : Parts) (known : Decodes p.segment) (x : List ℕ) (c : Configuration) (called : StandardProcedure)
     (j unit base index count : ℕ) (rest : List ℕ) (h : IsUnitCall p c called j unit base index count rest) where
   -- the configuration after the call
-  abbrev pub begun : Direction → Configuration
+  abbrev begun : Direction → Configuration
   begun way = record c {
     state = record c.state {
       stack = rest;
@@ -43,14 +39,14 @@ module _ (p : Parts) (known : Decodes p.segment) (x : List ℕ) (c : Configurati
     };
   }
 
-  pub begins_out : called ≡ UnitWrite → transition p x c ≡ Goes (begun Writing)
+  begins_out : called ≡ UnitWrite → transition p x c ≡ Goes (begun Writing)
   begins_out is =
-      let f = some_frame (current_of c.state.frames) h.current in
+      let f = some_is (current_of c.state.frames) h.current in
       rw (f.1, h.idle, (known c.state.next (Csp called) j).1 h.there, is, h.operands) refl
 
-  pub begins_in : called ≡ UnitRead → transition p x c ≡ Goes (begun Reading)
+  begins_in : called ≡ UnitRead → transition p x c ≡ Goes (begun Reading)
   begins_in is =
-      let f = some_frame (current_of c.state.frames) h.current in
+      let f = some_is (current_of c.state.frames) h.current in
       rw (f.1, h.idle, (known c.state.next (Csp called) j).1 h.there, is, h.operands) refl
 
 -- a transfer of all bytes is over
@@ -63,11 +59,6 @@ begun_none unit base index at = grind (arith, nat_tests)
 -- one of fewer is not
 rest_left : (t : Transfer) (n : ℕ) → n < t.left → left_after t n ≡ Some (record t { address = t.address +ℤ pos n; left = t.left - n })
 rest_left t n few = grind (arith, nat_tests)
-
--- a pending read waits where the input has ended
-waiting : (x : List ℕ) (c : Configuration) (o : Option Transfer) (t : Transfer) → o ≡ Some t → t.direction ≡ Reading
-    → IsSome (live_byte_at c.state.words t.address) → length x ≤ c.read → WaitsIn x c o
-waiting x c o t is way live ends = rw is (way, live, ends)
 
 -- the state after a whole transfer
 placed_is : (c : Configuration) (j : ℕ) (rest live : List ℕ) (unit : ℕ) (o : Option Transfer) → IsTrue (is_console unit) → o ≡ None
@@ -102,7 +93,7 @@ module _ (p : Parts) (known : Decodes p.segment) (x : List ℕ) (c : Configurati
       (rw (console, h.idle, append-nil) refl)
   all_out (b ∷ bytes) h console few held =
       let step = begins_out p known x c UnitWrite j unit base index (length (b ∷ bytes)) rest h refl in
-      let f = some_frame (current_of c.state.frames) h.current in
+      let f = some_is (current_of c.state.frames) h.current in
       let t = begun_is Writing unit base index (length (b ∷ bytes)) c.state.next console (omega arith) few in
       one_before p x (length (b ∷ bytes)) c _ _ _ step (bytes_out p x f.0 b bytes _ _ f.1 t refl (omega arith) held)
       (same_parts _ _ c.read c.read _ _ (placed_is c j rest c.state.words unit _ console (spent _ _ (omega arith)) h.idle) refl refl)
@@ -132,7 +123,7 @@ module _ (p : Parts) (known : Decodes p.segment) (x : List ℕ) (c : Configurati
     all_in (b ∷ bytes) h console few next held =
         let count = length (b ∷ bytes) in
         let step = begins_in p known x c UnitRead j unit base index count rest h refl in
-        let f = some_frame (current_of c.state.frames) h.current in
+        let f = some_is (current_of c.state.frames) h.current in
         let t = begun_is Reading unit base index count c.state.next console (omega arith) few in
         let live = with_bytes c.state.words (byte_address base index) (b ∷ bytes) in (
           live,
@@ -152,7 +143,7 @@ module _ (p : Parts) (known : Decodes p.segment) (x : List ℕ) (c : Configurati
         × TakesBytes c.state.words (byte_address base index) bytes d.state.words
     waits_in count bytes h console few short next ends held =
         let step = begins_in p known x c UnitRead j unit base index count rest h refl in
-        let f = some_frame (current_of c.state.frames) h.current in
+        let f = some_is (current_of c.state.frames) h.current in
         let pending = begun_is Reading unit base index count c.state.next console (omega arith) few in
         let address = byte_address base index in
         let t : Transfer = record { direction = Reading; unit = unit; address = address; left = count; at = c.state.next } in
@@ -164,6 +155,6 @@ module _ (p : Parts) (known : Decodes p.segment) (x : List ℕ) (c : Configurati
         let behind = live_behind got apart bytes c.state.words (byte_address base index) next.small held in (
           got_in p x b t bytes,
           one_before p x (length bytes) c b _ _ step moves refl,
-          (f.0, f.1, waiting x (got_in p x b t bytes) _ _ (rest_left t (length bytes) short) refl behind (omega (arith, ends))),
+          (f.0, f.1, rw (rest_left t (length bytes) short) (refl, behind, omega (arith, ends))),
           takes got apart bytes c.state.words _ next.small first,
         )

@@ -1,5 +1,5 @@
 -- How a configuration makes its transition: by an instruction, or by a byte of a transfer.
-use Rattle.std.proofs.Common.{◌≡◌, ℕ, List, Option, Some, None, Result, Ok, Err, refl, sym, ◌∙◌, arith}
+use Rattle.std.proofs.Common.{◌≡◌, ℕ, List, Option, Some, None, Result, Ok, Err, refl, arith}
 use Rattle.std.proofs.lemmas.Bool.Decides.{nat_tests}
 use Rattle.pcode_file.specs.Parts.{Parts}
 use Rattle.pcode_ops.specs.declared.instr.Instr.{Instr}
@@ -26,11 +26,8 @@ pub data Went (p : Parts) (x : List ℕ) (c d : Configuration) : Type 0 where
       → moved t.direction x c f t ≡ Goes d → Went p x c d
 
 -- the parts of what is decoded
-same_first : (i k : Instr) (j l : ℕ) → ◌≡◌ {A = Result (Instr × ℕ) OpFault} (Ok (i, j)) (Ok (k, l)) → i ≡ k
-same_first i k j l e = grind arith
-
-same_second : (i k : Instr) (j l : ℕ) → ◌≡◌ {A = Result (Instr × ℕ) OpFault} (Ok (i, j)) (Ok (k, l)) → j ≡ l
-same_second i k j l e = grind arith
+pub one_decoded : (i k : Instr) (j l : ℕ) → ◌≡◌ {A = Result (Instr × ℕ) OpFault} (Ok (i, j)) (Ok (k, l)) → (i ≡ k) × (j ≡ l)
+one_decoded i k j l e = grind arith
 
 -- the state after an instruction is the new one
 after_goes : (c : Configuration) (f : Frame) (o : Option (Result State Stop)) (d : Configuration) → after_effect c f o ≡ Goes d
@@ -57,20 +54,3 @@ module _ (p : Parts) (x : List ℕ) (c d : Configuration) where
   -- a step has come about in one of its ways
   pub went : transition p x c ≡ Goes d → Went p x c d
   went e = frame_went _ refl e
-
--- an instruction that is next is the one that was executed
-by_went : (p : Parts) (x : List ℕ) (c d : Configuration) (i : Instr) (j : ℕ) → c.state.transfer ≡ None
-    → instr_at p.segment c.state.next ≡ Ok (i, j) → Went p x c d
-    → (f : Frame) × (current_of c.state.frames ≡ Some f) × (execute p f i j c.state ≡ Some (Ok d.state))
-    × (d ≡ record c { state = d.state })
-by_went p x c d i j idle at (Executed f k l here made is) =
-    let instr : k ≡ i = same_first k i l j (sym here.decoded ∙ at) in
-    let end : l ≡ j = same_second k i l j (sym here.decoded ∙ at) in
-    (f, here.current, rw (instr, end) at made, is)
-by_went p x c d i j idle at (Moved f t current there e) = absurd (cc)
-
-pub executed : (p : Parts) (x : List ℕ) (c d : Configuration) (i : Instr) (j : ℕ) → c.state.transfer ≡ None
-    → instr_at p.segment c.state.next ≡ Ok (i, j) → transition p x c ≡ Goes d
-    → (f : Frame) × (current_of c.state.frames ≡ Some f) × (execute p f i j c.state ≡ Some (Ok d.state))
-    × (d ≡ record c { state = d.state })
-executed p x c d i j idle at e = by_went p x c d i j idle at (went p x c d e)

@@ -1,29 +1,24 @@
 -- The parts of procedures lie in the segment and are apart, so each offset of a part has the part's
 -- procedure as its owner.
-use Rattle.std.proofs.Common.{◌≡◌, ℕ, zero, suc, ◌+◌, ◌↔◌, true, IsTrue, List, [], ◌∷◌, length, get_or, Some, slice_get, Ok, refl, ap, arith}
+use Rattle.std.proofs.Common.{◌≡◌, ℕ, zero, suc, ◌↔◌, true, IsTrue, List, [], ◌∷◌, length, get_or, Some, slice_get, Ok, refl, ap, arith}
 use Rattle.std.proofs.lemmas.Bool.{cond_both}
 use Rattle.std.proofs.lemmas.Bool.Decides.{nat_tests}
 use Rattle.std.proofs.lemmas.Option.{slice_get-get_or}
 use Rattle.pcode_file.specs.declared.file.Proc.{Proc}
-use Rattle.pcode_file.specs.InFile.{HasProc, AreProcs}
+use Rattle.pcode_file.specs.InFile.{AreProcs}
 use Rattle.pcode_file.specs.Parts.{Parts, procedure_of}
 use Rattle.pcode_ops.specs.Loading.{is_in, owner}
 use Rattle.pcode_ops.specs.Rules.{LiesIn}
-use Rattle.pcode_ops.specs.Walks.{IsPartWithin, AreParts}
+use Rattle.pcode_ops.specs.Walks.{AreParts}
 
 -- the test of an offset's part as a fact
 pub lies_in : (q : Proc) (i : ℕ) → (is_in q i ≡ true) ↔ LiesIn q i
 lies_in q i = grind (arith, nat_tests)
 
--- the part of one procedure lies in the segment
-part_of : (segment : List ℕ) (n i : ℕ) (q : Proc) → HasProc segment n i q → IsPartWithin (length segment) q
-part_of segment n i q h = grind (arith, nat_tests)
-
 -- the parts of all procedures lie in the segment
 pub are_parts : (segment : List ℕ) (procs : List Proc) → AreProcs segment procs → AreParts (length segment) procs
-are_parts segment procs h =
-    λ k d lt. part_of segment (length procs) (1 + k) (get_or procs k d)
-    (h.each k (get_or procs k d) (slice_get-get_or procs k d lt))
+are_parts segment procs h = λ k d lt.
+    let own = h.each k (get_or procs k d) (slice_get-get_or procs k d lt) in grind (arith, nat_tests)
 
 -- ---- owners
 

@@ -51,10 +51,6 @@ case_jump_read code at instr j e =
 
 -- ---- from the function to the relation
 
--- a byte that is read is in the code
-byte_there : (code : List ℕ) (i op : ℕ) → byte_at code i ≡ Ok op → HasByte code i op
-byte_there code i op e = grind arith
-
 -- what is read after an opcode is there, in the form of the opcode's row
 read_stands : (code : List ℕ) (i op first : ℕ) (form : Form) (instr : Instr) (j : ℕ) → HasByte code i op
     → has_opcode op first form ≡ true → read_at code i op first form ≡ Ok (instr, j) → Stands code i first form instr j
@@ -76,7 +72,7 @@ pub decoded_at : (code : List ℕ) (i : ℕ) (instr : Instr) (j : ℕ) → instr
 unfolding instr_of
 decoded_at code i instr j e =
     let b = bind_ok (byte_at code i) (instr_of code i) (instr, j) e in
-    row_at code i b.0 instr j (row_of b.0 opcodes) (byte_there code i b.0 b.1) refl b.2
+    row_at code i b.0 instr j (row_of b.0 opcodes) (grind arith) refl b.2
 
 -- the same of an answer
 pub answer_stands : (code : List ℕ) (i : ℕ) (r : Result (Instr × ℕ) OpFault) → r ≡ instr_at code i

@@ -1,16 +1,16 @@
 -- The first fault of an offset, as a function and as a relation.
-use Rattle.std.proofs.Common.{cond, if◌then◌else◌, Bool, ◌≡◌, ◌↔◌, ◌⊎◌, ℕ, zero, suc, ◌+◌, ◌*◌, ◌<◌, true, false, List, [], ◌∷◌, Option, Some, None, Result, Ok, Err, slice_get, inl, inr, refl, arith, ℤ, pos, int_le, unsigned_abs, nat_le, ◌==◌, ◌&&◌, ◌-◌, ◌%◌}
+use Rattle.std.proofs.Common.{if◌then◌else◌, Bool, ◌≡◌, ◌↔◌, ◌⊎◌, ℕ, zero, suc, ◌+◌, ◌*◌, ◌<◌, false, List, [], ◌∷◌, Option, Some, None, Result, Ok, Err, slice_get, inl, inr, refl, arith, ℤ}
 use Rattle.std.proofs.lemmas.Bool.Decides.{nat_tests}
 use Rattle.base.specs.Steps.{◌>>=◌}
 use Rattle.pcode_file.specs.declared.file.Proc.{Proc}
-use Rattle.std.proofs.lemmas.Bool.{cond_both}
+use Rattle.std.proofs.lemmas.Bool.{and_cases, cond_both, iff_false, false_from_ne_true}
 use Rattle.pcode_file.specs.InFile.{AreProcs}
-use Rattle.pcode_file.specs.Parts.{Parts, word}
+use Rattle.pcode_file.specs.Parts.{Parts}
 use Rattle.pcode_ops.specs.declared.instr.Instr.{Instr}
 use Rattle.pcode_ops.specs.declared.loading.Onward.{Onward}
 use Rattle.pcode_ops.specs.declared.fault.OpFault.{OpFault}
 use Rattle.pcode_ops.specs.declared.fault.OpFault.TheVariants as fault
-use Rattle.pcode_ops.specs.At.{At, cases}
+use Rattle.pcode_ops.specs.At.{cases}
 use Rattle.pcode_ops.specs.Decoding.{instr_at}
 use Rattle.pcode_ops.specs.Loading.{is_in, owner, legal, look, onward, flow_of, IsFaulty, IsFine, LeadsTo, jump_to, entries_in, leads_in, goes_on, ends_at, Flow, On, Jumps, Branches, Switches, Ends, flows_to}
 use Rattle.pcode_ops.specs.Rules.{LiesIn, PointsTo, Leads}
@@ -28,37 +28,29 @@ use Rattle.pcode_ops.proofs.Unread.{bytes_unread, not_read}
 not_inside : (q : Proc) (i : ℕ) → (is_in q i ≡ false) ↔ ¬ (LiesIn q i)
 not_inside q i = grind (arith, nat_tests)
 
--- without an owner no procedure has the offset in its part
-none_has : (procs : List Proc) (i : ℕ) (f : OpFault) → owner procs i ≡ Err f
-    → (f ≡ fault.Cut) × ((k : ℕ) (q : Proc) → slice_get procs k ≡ Some q → is_in q i ≡ false)
-none_has [] i f e = (cc, λ k q at. absurd (cc))
-none_has (d ∷ ds) i f e =
-    cond_both (is_in d i) (Ok d) (owner ds i)
-    (λ r. r ≡ Err f → (f ≡ fault.Cut) × ((k : ℕ) (q : Proc) → slice_get (d ∷ ds) k ≡ Some q → is_in q i ≡ false))
-    (λ t h. absurd cc)
-    (λ t h. (let rest = none_has ds i f h in (
-      rest.0,
-      elim [
-        | zero ↦ λ q at. (let same : d ≡ q = cc in rw same at t)
-        | suc k ↦ rest.1 k
-      ],
-    ))) e
-
-no_owner : (procs : List Proc) (i : ℕ) → ((k : ℕ) (q : Proc) → slice_get procs k ≡ Some q → is_in q i ≡ false)
-    → owner procs i ≡ Err fault.Cut
-no_owner [] i h = refl
-no_owner (d ∷ ds) i h = rw (h 0 d refl, no_owner ds i (λ k. h (suc k))) refl
+-- an offset has no owner where no procedure has it in its part
+no_owner : (procs : List Proc) (i : ℕ) (f : OpFault) → (owner procs i ≡ Err f)
+    ↔ ((f ≡ fault.Cut) × ((k : ℕ) (q : Proc) → slice_get procs k ≡ Some q → ¬ (LiesIn q i)))
+no_owner [] i f = (λ e. (cc, λ k q at. absurd cc), λ h. rw h.0 refl)
+no_owner (d ∷ ds) i f =
+    let rest = no_owner ds i f in (
+      cond_both (is_in d i) (Ok d) (owner ds i)
+          (λ r. r ≡ Err f → (f ≡ fault.Cut) × ((k : ℕ) (q : Proc) → slice_get (d ∷ ds) k ≡ Some q → ¬ (LiesIn q i)))
+          (λ t h. absurd cc)
+          (λ t h. (
+            (rest.0 h).0,
+            elim [
+              | zero ↦ λ q at. (let same : d ≡ q = cc in (not_inside q i).0 (rw same at t))
+              | suc k ↦ (rest.0 h).1 k
+            ],
+          )),
+      λ h. rw ((not_inside d i).1 (h.1 0 d refl)) (rest.1 (h.0, λ k. h.1 (suc k))),
+    )
 
 pub none_owns : (procs : List Proc) (i : ℕ) (f : OpFault) → (owner procs i ≡ Err f) ↔ ((f ≡ fault.Cut) × IsOutside procs i)
 none_owns procs i f = (
-  λ e. (let h = none_has procs i f e in (
-    h.0,
-    elim [
-      | zero ↦ λ q named. absurd (cc)
-      | suc k ↦ λ q named. (not_inside q i).0 (h.1 k q named)
-    ],
-  )),
-  λ h. rw h.0 (no_owner procs i (λ k q at. (not_inside q i).1 (h.1 (suc k) q at))),
+  λ e. (let h = (no_owner procs i f).0 e in (h.0, elim [ zero ↦ λ q named. absurd (cc) | suc k ↦ h.1 k ])),
+  λ h. (no_owner procs i f).1 (h.0, λ k. h.1 (suc k)),
 )
 
 -- the owner is the procedure in whose part the offset lies
@@ -76,16 +68,8 @@ holds_not procs q instr f = grind (arith, nat_tests)
 -- ---- where it leads
 
 module _ (segment : List ℕ) (q : Proc) where
-  jump_fails : (a b c d : Bool) (x y : ℕ) (f : OpFault)
-      → cond a (cond b (Ok x) (Err fault.JumpRange)) (cond c (cond d (Ok y) (Err fault.JumpRange)) (Err fault.JumpRange)) ≡ Err f
-      → f ≡ fault.JumpRange
-  jump_fails a b c d x y f e = grind (arith, nat_tests)
-
   only_range : (sb : ℤ) (j : ℕ) (f : OpFault) → jump_to segment q sb j ≡ Err f → f ≡ fault.JumpRange
-  only_range sb j f e =
-      let by = unsigned_abs sb in
-      jump_fails (int_le (pos 0) sb) (is_in q (j + by)) ((by % 2 == 0) && nat_le 10 by && nat_le (q.low + by) q.jtab)
-      (leads_in segment q (q.jtab - by)) (j + by) (q.jtab - by - word segment (q.jtab - by)) f e
+  only_range sb j f e = grind arith
 
   target_by : (sb : ℤ) (j : ℕ) (r : Result ℕ OpFault) → jump_to segment q sb j ≡ r → HasNoTarget segment q sb j
       → jump_to segment q sb j ≡ Err fault.JumpRange
@@ -102,18 +86,13 @@ module _ (segment : List ℕ) (q : Proc) where
   next_outside : (j : ℕ) (target : Option ℕ) (f : OpFault) → (goes_on q j target ≡ Err f) ↔ ((f ≡ fault.Cut) × ¬ (LiesIn q j))
   next_outside j target f = grind (arith, nat_tests)
 
-  -- of two tests one fails
-  and_false : (a b : Bool) → (a && b) ≡ false → (a ≡ false) ⊎ (b ≡ false)
-  and_false true b e = inr e
-  and_false false b e = inl refl
-
   -- an entry of a case table leads outside
   entry_by : (table n : ℕ) → entries_in segment q table n ≡ false → (k : ℕ) × (k < n) × (leads_in segment q (table + 2 * k) ≡ false)
   unfolding entries_in
   entry_by table zero e = absurd (cc)
   entry_by table (suc n) e =
       let first : table + 2 * 0 ≡ table = omega arith in
-      elim (and_false (leads_in segment q table) (entries_in segment q (table + 2) n) e) [
+      elim (and_cases (leads_in segment q table) (entries_in segment q (table + 2) n) e) [
         | inl here ↦ (0, omega arith, rw first here)
         | inr later ↦
             let rest = entry_by (table + 2) n later in
@@ -121,86 +100,68 @@ module _ (segment : List ℕ) (q : Proc) where
             (suc rest.0, omega (arith, rest.1), rw place at rest.2)
       ]
 
-  entries_fail : (table n k : ℕ) → k < n → ((t : ℕ) → ¬ (PointsTo segment q (table + 2 * k) t)) → (b : Bool)
-      → entries_in segment q table n ≡ b → entries_in segment q table n ≡ false
-  entries_fail table n k few none true e = let to = (entries_point segment q table n).0 e k few in absurd (none to.0 to.1)
-  entries_fail table n k few none false e = e
-
   no_entry : (table n : ℕ) → (entries_in segment q table n ≡ false)
       ↔ ((k : ℕ) × (k < n) × ((t : ℕ) → ¬ (PointsTo segment q (table + 2 * k) t)))
   no_entry table n = (
-    λ e. (let h = entry_by table n e in (h.0, h.1, λ t to. absurd (cc (h.2, (pointing segment q (table + 2 * h.0)).1 (t, to))))),
-    λ h. entries_fail table n h.0 h.1 h.2 (entries_in segment q table n) refl,
+    λ e. (let h = entry_by table n e in (h.0, h.1, λ t to. iff_false (pointing segment q (table + 2 * h.0)) h.2 (t, to))),
+    λ h. false_from_ne_true _ (λ e. let to = (entries_point segment q table n).0 e h.0 h.1 in h.2 to.0 to.1),
   )
 
   -- ---- flows
 
-  jump_err : (r : Result ℕ OpFault) (f : OpFault) → ((r >>= λ t. Ok (ends_at (Some t))) ≡ Err f) ↔ (r ≡ Err f)
-  jump_err (Ok t) f = (λ e. cc, λ e. cc)
-  jump_err (Err g) f = (λ e. cc, λ e. cc)
+  -- where P says when a part of a flow fails, and T what the target of a jump is
+  jump_err : {P : Type 0} (r : Result ℕ OpFault) (f : OpFault) → (r ≡ Err f) ↔ P → ((r >>= λ t. Ok (ends_at (Some t))) ≡ Err f) ↔ P
+  jump_err r f fails = grind arith
 
-  branch_err : (j : ℕ) (r : Result ℕ OpFault) (f : OpFault) → ((r >>= λ t. goes_on q j (Some t)) ≡ Err f)
-      ↔ ((r ≡ Err f) ⊎ ((f ≡ fault.Cut) × ((t : ℕ) × (r ≡ Ok t)) × ¬ (LiesIn q j)))
-  branch_err j (Ok t) f = (
-    λ e. (let h = (next_outside j (Some t) f).0 e in inr (h.0, (t, refl), h.1)),
-    elim [ inl h ↦ absurd cc | inr h ↦ (next_outside j (Some t) f).1 (h.0, h.2) ],
+  branch_err : {P : Type 0} {T : ℕ → Type 0} (j : ℕ) (r : Result ℕ OpFault) (f : OpFault) → (r ≡ Err f) ↔ P
+      → ((t : ℕ) → (r ≡ Ok t) ↔ T t) → ((r >>= λ t. goes_on q j (Some t)) ≡ Err f)
+      ↔ (P ⊎ ((f ≡ fault.Cut) × ((t : ℕ) × T t) × ¬ (LiesIn q j)))
+  branch_err j (Ok t) f fails to = (
+    λ e. (let h = (next_outside j (Some t) f).0 e in inr (h.0, (t, (to t).0 refl), h.1)),
+    elim [ inl h ↦ absurd (cc (fails.1 h)) | inr h ↦ (next_outside j (Some t) f).1 (h.0, h.2) ],
   )
-  branch_err j (Err g) f = (λ e. inl (cc), elim [ inl h ↦ cc | inr h ↦ absurd (cc (h.1.1)) ])
+  branch_err j (Err g) f fails to =
+      (λ e. inl (fails.0 (cc)), elim [ inl h ↦ (let e = fails.1 h in cc) | inr h ↦ absurd (cc ((to h.1.0).1 h.1.1)) ])
 
-  cases_err : (b : Bool) (o : Onward) (f : OpFault)
-      → ((if b then Ok o else Err fault.JumpRange) ≡ Err f) ↔ ((f ≡ fault.JumpRange) × (b ≡ false))
-  cases_err true o f = (λ e. absurd cc, λ h. absurd cc)
-  cases_err false o f = (λ e. (cc, refl), λ h. cc)
+  cases_err : {P : Type 0} (b : Bool) (o : Onward) (f : OpFault) → (b ≡ false) ↔ P
+      → ((if b then Ok o else Err fault.JumpRange) ≡ Err f) ↔ ((f ≡ fault.JumpRange) × P)
+  cases_err b o f fails = grind (arith, nat_tests)
 
   pub flows_out : (flow : Flow) (j : ℕ) (f : OpFault) → (flows_to segment q flow j ≡ Err f) ↔ MayNotFlow segment q flow j f
   flows_out On j f = next_outside j None f
-  flows_out (Jumps sb) j f = (
-    λ e. (no_target sb j f).0 ((jump_err (jump_to segment q sb j) f).0 e),
-    λ h. (jump_err (jump_to segment q sb j) f).1 ((no_target sb j f).1 h),
-  )
-  flows_out (Branches sb) j f = (
-    λ e. elim ((branch_err j (jump_to segment q sb j) f).0 e) [
-      | inl h ↦ inl ((no_target sb j f).0 h)
-      | inr h ↦ inr (h.0, (h.1.0, (jumps_to segment q sb j h.1.0).0 h.1.1), h.2)
-    ],
-    λ h. (branch_err j (jump_to segment q sb j) f).1 (elim h [
-      | inl g ↦ inl ((no_target sb j f).1 g)
-      | inr g ↦ inr (g.0, (g.1.0, (jumps_to segment q sb j g.1.0).1 g.1.1), g.2)
-    ]),
-  )
+  flows_out (Jumps sb) j f = jump_err _ f (no_target sb j f)
+  flows_out (Branches sb) j f = branch_err j _ f (no_target sb j f) (jumps_to segment q sb j)
   flows_out (Switches low high table) j f =
-      let count = cases low high in (
-        λ e. (let h = (cases_err (entries_in segment q table count) _ f).0 e in
-            let k = (no_entry table count).0 h.1 in (h.0, k.0, k.1, k.2)),
-        λ h. (cases_err (entries_in segment q table count) _ f).1 (h.0, (no_entry table count).1 (h.1, h.2, h.3)),
-      )
+      let is = cases_err _ _ f (no_entry table (cases low high)) in
+      (λ e. (let h = is.0 e in (h.0, h.1.0, h.1.1, h.1.2)), λ h. is.1 (h.0, (h.1, h.2, h.3)))
   flows_out Ends j f = (λ e. absurd cc, λ h. absurd h)
 
 -- ---- all checks
 
+-- a step fails, or the next one
+bind_err : {A B : Type 0} (r : Result A OpFault) (f : A → Result B OpFault) (e : OpFault) → (r >>= f) ≡ Err e
+    → (r ≡ Err e) ⊎ ((x : A) × (r ≡ Ok x) × (f x ≡ Err e))
+bind_err (Ok x) f e h = inr (x, refl, h)
+bind_err (Err g) f e h = inl (cc)
+
 module _ (p : Parts) (i : ℕ) (procs : AreProcs p.segment p.procs) where
-  flow_fault : (q : Proc) (instr : Instr) (j : ℕ) (f : OpFault) → Owns p.procs i q → At (part_code p q) i instr j
-      → (r : Result Unit OpFault) → legal p.procs q instr ≡ r → (r >>= λ _. onward p.segment q instr j) ≡ Err f → HasFirstFault p i f
-  flow_fault q instr j f own at (Ok u) legal e =
-      leads_out q instr j own at ((may_hold p.procs q instr).0 legal) ((flows_out p.segment q (flow_of instr) j f).0 e)
-  flow_fault q instr j f own at (Err g) legal e =
-      let same : g ≡ f = cc in not_held q instr j own at (rw same at ((holds_not p.procs q instr g).0 legal))
-
-  instr_fault : (q : Proc) (f : OpFault) → Owns p.procs i q → (r : Result (Instr × ℕ) OpFault) → instr_at (part_code p q) i ≡ r
-      → (r >>= λ found. legal p.procs q found.0 >>= λ _. onward p.segment q found.0 found.1) ≡ Err f → HasFirstFault p i f
-  instr_fault q f own (Ok (instr, j)) at e =
-      flow_fault q instr j f own (decoded_at (part_code p q) i instr j at) (legal p.procs q instr) refl e
-  instr_fault q f own (Err g) at e = let same : g ≡ f = cc in unread q own (rw same at (bytes_unread (part_code p q) i g at))
-
-  owner_fault : (f : OpFault) (r : Result Proc OpFault) → owner p.procs i ≡ r
-      → (r >>= λ q. instr_at (part_code p q) i >>= λ found. legal p.procs q found.0 >>= λ _. onward p.segment q found.0 found.1) ≡ Err f
-      → HasFirstFault p i f
-  owner_fault f (Ok q) own e = instr_fault q f ((one_owns p i q procs).0 own) (instr_at (part_code p q) i) refl e
-  owner_fault f (Err g) own e = let none = (none_owns p.procs i g).0 own in outside none.1 (cc (none.0))
-
   pub first_fault : (f : OpFault) → IsFaulty p i f → HasFirstFault p i f
   unfolding look
-  first_fault f e = owner_fault f (owner p.procs i) refl e
+  first_fault f e = elim (bind_err (owner p.procs i) _ f e) [
+    | inl none ↦ let h = (none_owns p.procs i f).0 none in outside h.1 h.0
+    | inr (q, owned, e) ↦
+        let own = (one_owns p i q procs).0 owned in
+        elim (bind_err (instr_at (part_code p q) i) _ f e) [
+          | inl bytes ↦ unread q own (bytes_unread (part_code p q) i f bytes)
+          | inr ((instr, j), decoded, e) ↦
+              let at = decoded_at (part_code p q) i instr j decoded in
+              elim (bind_err (legal p.procs q instr) _ f e) [
+                | inl not ↦ not_held q instr j own at ((holds_not p.procs q instr f).0 not)
+                | inr (_, held, e) ↦
+                    leads_out q instr j own at ((may_hold p.procs q instr).0 held) ((flows_out p.segment q (flow_of instr) j f).0 e)
+              ]
+        ]
+  ]
 
   pub is_faulty : (f : OpFault) → HasFirstFault p i f → IsFaulty p i f
   unfolding look
@@ -228,7 +189,7 @@ module _ (p : Parts) (i : ℕ) (procs : AreProcs p.segment p.procs) where
         },
       )
 
-  pub stands_looked : (q : Proc) (instr : Instr) (j : ℕ) → StandsAt p i q instr j
+  stands_looked : (q : Proc) (instr : Instr) (j : ℕ) → StandsAt p i q instr j
       → (o : Onward) × (look p i ≡ Ok o) × (onward p.segment q instr j ≡ Ok o)
   unfolding look
   stands_looked q instr j h =

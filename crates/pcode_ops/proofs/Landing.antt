@@ -1,10 +1,10 @@
 -- Where jumps and case jumps lead that loading has let pass: to reached offsets of the segment.
-use Rattle.std.proofs.Common.{◌≡◌, ℕ, zero, suc, ◌+◌, ◌*◌, ◌<◌, ◌≤◌, ◌&&◌, true, length, List, Option, Some, None, IsSome, Ok, inl, inr, refl, sym, ◌∙◌, arith, ℤ, pos, ◌-ℤ◌, ◌≤ℤ◌, int_le, unsigned_abs}
+use Rattle.std.proofs.Common.{◌≡◌, ℕ, zero, suc, ◌+◌, ◌*◌, ◌<◌, ◌≤◌, ◌&&◌, true, length, List, Some, IsSome, Ok, inl, inr, refl, sym, ◌∙◌, arith, ℤ, pos, ◌-ℤ◌, ◌≤ℤ◌, int_le, unsigned_abs}
 use Rattle.std.proofs.lemmas.Bool.{cond_both}
 use Rattle.std.proofs.lemmas.Bool.Decides.{nat_tests}
 use Rattle.std.proofs.lemmas.Int.{ints}
+use Rattle.std.proofs.lemmas.Option.{slice_get_cases}
 use Rattle.std.specs.Int.{w16, cast_signed}
-use Rattle.std.specs.Option.{option_and_then}
 use Rattle.std.specs.Result.{result_ok}
 use Rattle.base.proofs.Steps.{bind_ok}
 use Rattle.pcode_file.specs.declared.file.Proc.{Proc}
@@ -16,17 +16,13 @@ use Rattle.pcode_ops.specs.declared.loading.Onward.{Onward}
 use Rattle.pcode_ops.specs.At.{cases}
 use Rattle.pcode_ops.specs.Decoding.{instr_at}
 use Rattle.pcode_ops.specs.Jumps.{jump_in, StaysWith, case_of, IsCaseTable}
-use Rattle.pcode_ops.specs.Loading.{jump_to, goes_on, Flow, Jumps, Branches, flow_of, flows_to, LeadsTo, JumpsWith, JumpsBy}
+use Rattle.pcode_ops.specs.Loading.{jump_to, Flow, Jumps, Branches, flow_of, flows_to, LeadsTo, JumpsWith, JumpsBy}
 use Rattle.pcode_ops.specs.Reach.{MayStand}
 use Rattle.pcode_ops.proofs.Entries.{entries_point}
 use Rattle.pcode_ops.proofs.Operating.{table_in}
 use Rattle.pcode_ops.proofs.Ruling.{cases_is, cases_made}
 
 -- ---- jumps
-
--- a branch leads to its target
-branch_target : (q : Proc) (next t : ℕ) (o : Onward) → goes_on q next (Some t) ≡ Ok o → o.target ≡ Some t
-branch_target q next t o e = grind arith
 
 -- a jump has a target, to which its flow leads
 flow_target : (segment : List ℕ) (q : Proc) (flow : Flow) (sb : ℤ) (next : ℕ) (o : Onward) → JumpsWith flow sb
@@ -36,7 +32,7 @@ flow_target segment q (Jumps by) sb next o same e =
     (b.0, rw (← same) b.1, cc (b.2))
 flow_target segment q (Branches by) sb next o same e =
     let b = bind_ok (jump_to segment q by next) _ o e in
-    (b.0, rw (← same) b.1, branch_target q next b.0 o b.2)
+    (b.0, rw (← same) b.1, grind arith)
 flow_target segment q other sb next o same e = absurd same
 
 -- a jump leads to an offset that is reached and owned by its procedure
@@ -52,18 +48,14 @@ lands : (segment : List ℕ) (q : Proc) (sb : ℤ) (next : ℕ) → pos 0 ≤ℤ
     → next + unsigned_abs sb < end_of q
 lands segment q sb next from h = grind (arith, ints, nat_tests)
 
--- and so into the segment, where the procedure is there
-lands_by : (p : Parts) (n : ℕ) (sb : ℤ) (next : ℕ) (o : Option Proc) → AreProcs p.segment p.procs → pos 0 ≤ℤ sb → procedure_of p.procs n ≡ o
-    → IsSome (option_and_then (λ q. result_ok (jump_to p.segment q sb next)) o) → next + unsigned_abs sb < length p.segment
-lands_by p zero sb next o h from at leads = absurd cc
-lands_by p (suc k) sb next None h from at leads = absurd cc
-lands_by p (suc k) sb next (Some q) h from at leads =
-    omega (arith, (h.each k q at).table.below, lands p.segment q sb next from leads)
-
 -- a forward jump that leads somewhere leads into the segment
 pub forward_below : (p : Parts) (n : ℕ) (sb : ℤ) (next : ℕ) → AreProcs p.segment p.procs → pos 0 ≤ℤ sb
     → IsSome (jump_in p n sb next) → next + unsigned_abs sb < length p.segment
-forward_below p n sb next h from leads = lands_by p n sb next (procedure_of p.procs n) h from refl leads
+forward_below p zero sb next h from leads = absurd cc
+forward_below p (suc k) sb next h from leads = elim (slice_get_cases p.procs k).1 [
+  | inl (q, _, at, _) ↦ omega (arith, (h.each k q at).table.below, lands p.segment q sb next from (rw at at leads))
+  | inr (_, none) ↦ absurd (cc (rw none at leads))
+]
 
 -- ---- case jumps
 

@@ -5,7 +5,6 @@ pub mod Searching
 pub mod DecodedIsAt
 pub mod Looking
 pub mod Rows
-pub mod Reading
 pub mod Operating
 pub mod Leading
 pub mod Apart
@@ -14,6 +13,5 @@ pub mod Landing
 pub mod Ruling
 pub mod Keeping
 pub mod Covering
-pub mod CaseJumps
 pub mod Unread
 pub mod FirstFaults

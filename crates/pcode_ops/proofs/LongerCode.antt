@@ -16,7 +16,7 @@ module _ (code : List ℕ) (e : ℕ) where
 
   -- a signed word in the front
   signed_longer : (i : ℕ) (w : ℤ) (j : ℕ) → SignedWord (take e code) i w j → SignedWord code i w j
-  signed_longer i w j h = (h.0, (h.1.0, h.1.1, (has_longer i h.1.0 h.1.2).1, (has_longer (i + 1) h.1.1 h.1.3).1, h.1.4, h.1.5), h.2)
+  signed_longer i w j h = grind (arith, has_longer)
 
   -- the operands of a case jump in the front
   cases_longer : (i : ℕ) (low high sb : ℤ) (table j : ℕ) → Cases (take e code) i low high sb table j → Cases code i low high sb table j

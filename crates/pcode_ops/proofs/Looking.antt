@@ -14,7 +14,7 @@ use Rattle.pcode_ops.proofs.LongerCode.{decoded_longer}
 -- ---- the owner
 
 -- q is one of the procedures, and the offset lies in its part
-abbrev pub IsOwner : List Proc → ℕ → Proc → Type 0
+abbrev IsOwner : List Proc → ℕ → Proc → Type 0
 IsOwner procs i q = (k : ℕ) × (slice_get procs k ≡ Some q) × (is_in q i ≡ true)
 
 -- the owner of an offset is one of the procedures, and the offset lies in its part
@@ -41,9 +41,9 @@ pub record Looked (p : Parts) (i : ℕ) : Type 0 where
   pub looked : look p i ≡ Ok leads
 
 -- what leads somewhere has passed each check
-looked_is : (p : Parts) (i : ℕ) (leads : Onward) → look p i ≡ Ok leads → Looked p i
+looked_by : (p : Parts) (i : ℕ) (r : Result Onward OpFault) → look p i ≡ r → IsFine p i → Looked p i
 unfolding look
-looked_is p i leads e =
+looked_by p i (Ok leads) e fine =
     let a = bind_ok (owner p.procs i) _ leads e in
     let b = bind_ok (instr_at (take (end_of a.0) p.segment) i) _ leads a.2 in
     let c = bind_ok (legal p.procs a.0 b.0.0) _ leads b.2 in
@@ -59,12 +59,8 @@ looked_is p i leads e =
       onward = c.2;
       looked = e;
     }
-
--- the same by cases of the answer
-fine_by : (p : Parts) (i : ℕ) (r : Result Onward OpFault) → look p i ≡ r → IsFine p i → Looked p i
-fine_by p i (Ok leads) e fine = looked_is p i leads e
-fine_by p i (Err f) e fine = absurd (fine f e)
+looked_by p i (Err f) e fine = absurd (fine f e)
 
 -- what the checks of an offset without fault found
 pub fine_looked : (p : Parts) (i : ℕ) → IsFine p i → Looked p i
-fine_looked p i fine = fine_by p i (look p i) refl fine
+fine_looked p i fine = looked_by p i (look p i) refl fine

@@ -21,14 +21,10 @@ flagged_none : (n : ℕ) → flagged (replicate n false) ≡ 0
 flagged_none zero = refl
 flagged_none (suc n) = omega (arith, flagged_none n)
 
--- and no offset has a set flag
-unflagged : (n i : ℕ) → get_or (replicate n false) i false ≡ true → ⊥
-unflagged n i e = grind (arith, get_or-replicate, get_or_past, length-replicate)
-
 -- nothing found is a listing
 pub listing_empty : (n : ℕ) → IsListing (record { flags = replicate n false; found = [] })
 listing_empty n = record {
-  listed = λ i h. absurd (unflagged n i h);
+  listed = λ i h. absurd (grind (arith, get_or-replicate, get_or_past, length-replicate));
   marked = λ k i h. absurd cc;
   distinct = λ j k i a b. absurd cc;
   count = flagged_none n;
@@ -41,7 +37,7 @@ listing_fits m l = omega (arith, l.count, flagged_within m.flags)
 -- ---- one more offset
 
 -- the marks with one more offset
-abbrev pub marked_with : Marks → ℕ → Marks
+abbrev marked_with : Marks → ℕ → Marks
 marked_with m at = record { flags = set m.flags at true; found = m.found ++ at ∷ [] }
 
 module _ (m : Marks) (at : ℕ) where

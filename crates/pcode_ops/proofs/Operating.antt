@@ -11,7 +11,7 @@ use Rattle.pcode_ops.proofs.Rows.{is_plain, makes_plain, row_makes_plain}
 use Rattle.pcode_ops.proofs.DecodedIsAt.{decoded_at}
 
 -- the elements of IXP fit a word, and what XJP needs is there
-abbrev pub HasOperands : List ℕ → ℕ → Instr → ℕ → Type 0
+abbrev HasOperands : List ℕ → ℕ → Instr → ℕ → Type 0
 HasOperands code i (Ixp elements width) j = FitsWord elements width
 HasOperands code i (Xjp low high sb table) j = Cases code (i + 1 + (i + 1) % 2) low high sb table j
 HasOperands code i _ j = Unit {0}

@@ -10,7 +10,7 @@ use Rattle.pcode_ops.specs.Opcodes.{Form, Alone, Numbered, WithByte, WithBig, Wi
 -- ---- rows that have no opcode in common
 
 -- how many opcodes a form has
-abbrev pub width_of : Form → ℕ
+abbrev width_of : Form → ℕ
 width_of (Numbered count number make) = count
 width_of _ = 1
 

@@ -1,6 +1,5 @@
 -- The search: what is marked is reached, and at its end what is reached is marked.
 use Rattle.std.proofs.Common.{◌≡◌, ℕ, ◌+◌, ◌<◌, ◌≤◌, ◌⊎◌, inl, inr, List, length, Some, Ok, Err, slice_get, refl, sym, ◌∙◌, arith, get_or}
-use Rattle.std.proofs.lemmas.Bool.{cases_lt}
 use Rattle.std.proofs.lemmas.Option.{slice_get_within, slice_get-get_or}
 use Rattle.pcode_ops.specs.declared.fault.OpFault.{OpFault}
 use Rattle.pcode_file.specs.declared.file.Proc.{Proc}
@@ -12,31 +11,28 @@ use Rattle.pcode_ops.specs.Walks.{Marks, IsMarked, IsListing, Adds, IsStarted, I
 
 -- what is below one more is below, or last
 less_or_last : (k n : ℕ) → k < n + 1 → (k < n) ⊎ (k ≡ n)
-less_or_last k n h = elim (cases_lt k n) [ inl less ↦ inl less | inr more ↦ inr (omega arith) ]
+less_or_last k n h = grind arith
 
--- one more procedure is marked
-started_more : (file : Parts) (n : ℕ) (q : Proc) (a b c : Marks) → slice_get file.procs n ≡ Some q
-    → IsStarted file n a → Adds (λ i. i ≡ q.enter) a b → Adds (λ i. i ≡ q.exit) b c → IsStarted file (n + 1) c
-started_more file n q a b c e s p1 p2 = record {
-  size = p2.size ∙ p1.size ∙ s.size;
-  sound = λ i h. elim (p2.only i h) [
-    | inl old ↦ elim (p1.only i old) [ inl older ↦ s.sound i older | inr here ↦ rw here (entered n q e) ]
-    | inr here ↦ rw here (exited n q e)
-  ];
-  starts = λ k r lt er. elim (less_or_last k n lt) [
-    | inl less ↦
-        let old = s.starts k r less er in
-        (p2.kept r.enter (p1.kept r.enter old.0), p2.kept r.exit (p1.kept r.exit old.1))
-    | inr last ↦ let one : q ≡ r = cc in rw (← one) (p2.kept q.enter (p1.added q.enter refl), p2.added q.exit refl)
-  ];
-}
-
--- the next procedure as a loop reads it
+-- one more procedure is marked, the next as a loop reads it
 pub started_next : (file : Parts) (items : List Proc) (n : ℕ) (d : Proc) (a b c : Marks) → items ≡ file.procs → n < length items
     → IsStarted file n a → Adds (λ i. i ≡ (get_or items n d).enter) a b → Adds (λ i. i ≡ (get_or items n d).exit) b c
     → IsStarted file (n + 1) c
-started_next file items n d a b c e lt s p1 p2 =
-    started_more file n (get_or items n d) a b c (rw (← e) (slice_get-get_or items n d lt)) s p1 p2
+started_next file items n d a b c same lt s p1 p2 =
+    let q : Proc = get_or items n d in
+    let e : slice_get file.procs n ≡ Some q = rw (← same) (slice_get-get_or items n d lt) in
+    record {
+      size = p2.size ∙ p1.size ∙ s.size;
+      sound = λ i h. elim (p2.only i h) [
+        | inl old ↦ elim (p1.only i old) [ inl older ↦ s.sound i older | inr here ↦ rw here (entered n q e) ]
+        | inr here ↦ rw here (exited n q e)
+      ];
+      starts = λ k r lt er. elim (less_or_last k n lt) [
+        | inl less ↦
+            let old = s.starts k r less er in
+            (p2.kept r.enter (p1.kept r.enter old.0), p2.kept r.exit (p1.kept r.exit old.1))
+        | inr last ↦ let one : q ≡ r = cc in rw (← one) (p2.kept q.enter (p1.added q.enter refl), p2.added q.exit refl)
+      ];
+    }
 
 -- ---- the search
 

@@ -1,17 +1,17 @@
 -- The first fault of bytes that are no instruction, as a function and as a relation.
-use Rattle.std.proofs.Common.{cond, ltb, eqb, slice_index, ◌*◌, ◌<◌, ◌≡◌, ◌≢◌, ◌↔◌, ◌⊎◌, ℕ, ◌+◌, ◌%◌, ◌-◌, ◌≤◌, true, List, length, Option, Some, None, Ok, Err, slice_get, inl, inr, refl, sym, arith, ℤ, ◌≤ℤ◌, ◌<ℤ◌}
+use Rattle.std.proofs.Common.{cond, ltb, eqb, slice_index, ◌*◌, ◌<◌, ◌≡◌, ◌↔◌, ◌⊎◌, ℕ, ◌+◌, ◌%◌, ◌-◌, ◌≤◌, true, List, length, Option, Some, None, Ok, Err, slice_get, inl, inr, refl, arith, ℤ, ◌≤ℤ◌, ◌<ℤ◌}
+use Rattle.std.proofs.lemmas.Bool.{cases_lt}
 use Rattle.std.proofs.lemmas.Bool.Decides.{nat_tests}
 use Rattle.std.proofs.lemmas.Int.{ints}
-use Rattle.std.proofs.lemmas.Option.{gets, slice_get-get_or, slice_get_past, slice_get_within, slice_get_cases}
+use Rattle.std.proofs.lemmas.Option.{gets, slice_get-get_or, slice_get_past, slice_get_cases}
 use Rattle.base.specs.Steps.{◌>>=◌}
 use Rattle.base.proofs.Lists.{get_none}
 use Rattle.pcode_ops.specs.declared.instr.Instr.{Instr}
-use Rattle.pcode_ops.specs.declared.instr.StandardProcedure.{StandardProcedure}
 use Rattle.pcode_ops.specs.declared.instr.StandardProcedure.TheVariants.{IoCheck, UnitRead, UnitWrite, IoResult, Halt}
 use Rattle.pcode_ops.specs.declared.fault.OpFault.{OpFault}
 use Rattle.pcode_ops.specs.declared.fault.OpFault.TheVariants as fault
 use Rattle.pcode_ops.specs.Opcodes.{Form, Alone, Numbered, WithByte, WithBig, WithWord, WithLevels, WithSigned, Typed, Packed, Standard, CaseJump, opcodes, has_opcode, row_of, IsTableRow}
-use Rattle.pcode_ops.specs.At.{HasByte, SignedWord, FitsWord, cases, standard_number}
+use Rattle.pcode_ops.specs.At.{HasByte, SignedWord, FitsWord, cases}
 use Rattle.pcode_ops.specs.Decoding.{or_cut, signed_word, byte_at, big_at, word_at, standard_of, packed_of, case_jump_at, read_at, by_row, instr_of, instr_at}
 use Rattle.pcode_ops.specs.Faults.{IsOpcodeOf, LacksBig, LacksStandard, LacksCases, LacksOperands, IsUnread, past, refused, lacking}
 use Rattle.pcode_ops.proofs.Rows.{row_found, row_is}
@@ -21,180 +21,87 @@ use Rattle.pcode_ops.proofs.Rows.{row_found, row_is}
 byte_cut : (code : List ℕ) (i : ℕ) (f : OpFault) → (byte_at code i ≡ Err f) ↔ ((f ≡ fault.Cut) × (length code ≤ i))
 byte_cut code i f = grind (arith, nat_tests, get_none, slice_get_past)
 
--- a number that is none of the five is that of no standard procedure
-none_of_five : (n : ℕ) → n ≢ 0 → n ≢ 5 → n ≢ 6 → n ≢ 34 → n ≢ 39 → (p : StandardProcedure) → standard_number p ≢ n
-none_of_five n a b c d e IoCheck = λ h. a (sym h)
-none_of_five n a b c d e UnitRead = λ h. b (sym h)
-none_of_five n a b c d e UnitWrite = λ h. c (sym h)
-none_of_five n a b c d e IoResult = λ h. d (sym h)
-none_of_five n a b c d e Halt = λ h. e (sym h)
-
-standard_tests : (j n : ℕ) (f : OpFault) → standard_of j n ≡ Err f
-    → ((f ≡ fault.Heap) × ((n ≡ 1) ⊎ (n ≡ 32) ⊎ (n ≡ 33)))
-    ⊎ ((f ≡ fault.StandardProcedure n) × (n ≢ 1) × (n ≢ 32) × (n ≢ 33) × (n ≢ 0) × (n ≢ 5) × (n ≢ 6) × (n ≢ 34) × (n ≢ 39))
-standard_tests j n f e = grind (arith, nat_tests)
-
 standard_fails : (j n : ℕ) (f : OpFault) → LacksStandard n f → standard_of j n ≡ Err f
 standard_fails j n f (inl h) = grind (arith, nat_tests)
 standard_fails j n f (inr h) =
-    let a = h.4 IoCheck in
-    let b = h.4 UnitRead in
-    let c = h.4 UnitWrite in
-    let d = h.4 IoResult in
-    let e = h.4 Halt in
-    grind (arith, nat_tests, a, b, c, d, e)
+    grind (arith, nat_tests, (h.4 IoCheck), (h.4 UnitRead), (h.4 UnitWrite), (h.4 IoResult), (h.4 Halt))
 
 standard_lacking : (j n : ℕ) (f : OpFault) → (standard_of j n ≡ Err f) ↔ LacksStandard n f
-standard_lacking j n f = (
-  λ e. elim (standard_tests j n f e) [
-    | inl h ↦ inl h
-    | inr h ↦ inr (h.0, h.1, h.2, h.3, none_of_five n h.4 h.5 h.6 h.7 h.8)
-  ],
-  standard_fails j n f,
-)
+standard_lacking j n f = (λ e. grind (arith, nat_tests), standard_fails j n f)
 
 packed_lacking : (j elements width : ℕ) (f : OpFault) → (packed_of j elements width ≡ Err f)
     ↔ ((f ≡ fault.Packing) × ¬ (FitsWord elements width))
 packed_lacking j elements width f = grind (arith, nat_tests)
 
 big_lacking : (code : List ℕ) (i : ℕ) (f : OpFault) → (big_at code i ≡ Err f) ↔ ((f ≡ fault.Cut) × LacksBig code i)
-big_lacking code i f =
-    let a = slice_get_cases code i in
-    let b = slice_get_cases code (i + 1) in
-    grind (arith, nat_tests, a, b)
+big_lacking code i f = grind (arith, nat_tests, slice_get_cases code i, slice_get_cases code (i + 1))
 
 word_lacking : (code : List ℕ) (i : ℕ) (f : OpFault) → (word_at code i ≡ Err f) ↔ ((f ≡ fault.Cut) × (length code ≤ i + 1))
-word_lacking code i f =
-    let a = slice_get_cases code i in
-    let b = slice_get_cases code (i + 1) in
-    grind (arith, nat_tests, a, b)
+word_lacking code i f = grind (arith, nat_tests, slice_get_cases code i, slice_get_cases code (i + 1))
 
 -- ---- forms
 
 lacking_byte : {A : Type 0} (code : List ℕ) (i : ℕ) (f : OpFault) (x : ℕ → A) → ((byte_at code i >>= λ n. Ok (x n)) ≡ Err f)
     ↔ ((f ≡ fault.Cut) × (length code ≤ i))
-lacking_byte code i f x = let a = slice_get_cases code i in grind (arith, nat_tests, a)
+lacking_byte code i f x = grind (arith, nat_tests, slice_get_cases code i)
 
 lacking_typed : (code : List ℕ) (i op : ℕ) (made : Instr) (f : OpFault) → (read_at code i op op (Typed made) ≡ Err f)
     ↔ LacksOperands code i op (Typed made) f
-lacking_typed code i op made f = let a = slice_get_cases code (i + 1) in grind (arith, nat_tests, a)
+lacking_typed code i op made f = grind (arith, nat_tests, slice_get_cases code (i + 1))
 
 lacking_packed : (code : List ℕ) (i op : ℕ) (f : OpFault) → (read_at code i op op Packed ≡ Err f) ↔ LacksOperands code i op Packed f
 lacking_packed code i op f =
-    let a = slice_get_cases code (i + 1) in
-    let b = slice_get_cases code (i + 2) in
-    grind (arith, nat_tests, a, b, packed_lacking)
-
-standard_by : (code : List ℕ) (i op : ℕ) (f : OpFault) (o : Option ℕ) → slice_get code (i + 1) ≡ o
-    → ((or_cut o >>= λ n. standard_of (i + 2) n) ≡ Err f) ↔ LacksOperands code i op Standard f
-standard_by code i op f None at = (
-  λ e. inl (cc, get_none code (i + 1) at),
-  elim [ inl cut ↦ rw cut.0 refl | inr there ↦ absurd (cc (at, there.1)) ],
-)
-standard_by code i op f (Some n) at = (
-  λ e. inr (n, at, (standard_lacking (i + 2) n f).0 e),
-  elim [
-    | inl cut ↦ absurd (omega (arith, slice_get_within code (i + 1) n at, cut.1))
-    | inr there ↦ let same : there.0 ≡ n = cc (at, there.1) in (standard_lacking (i + 2) n f).1 (rw same at there.2)
-  ],
-)
+    grind (arith, nat_tests, slice_get_cases code (i + 1), slice_get_cases code (i + 2), packed_lacking)
 
 lacking_standard : (code : List ℕ) (i op : ℕ) (f : OpFault) → (read_at code i op op Standard ≡ Err f) ↔ LacksOperands code i op Standard f
-lacking_standard code i op f = standard_by code i op f (slice_get code (i + 1)) refl
+lacking_standard code i op f = elim (slice_get_cases code (i + 1)).1 [
+  | inl (n, inside, at, _) ↦ rw at (
+    λ e. inr (n, refl, (standard_lacking (i + 2) n f).0 e),
+    elim [
+      | inl cut ↦ absurd (omega (arith, inside, cut.1))
+      | inr there ↦ let same : there.0 ≡ n = cc (there.1) in (standard_lacking (i + 2) n f).1 (rw same at there.2)
+    ],
+  )
+  | inr (far, none) ↦ rw none (λ e. inl (cc, far), elim [ inl cut ↦ rw cut.0 refl | inr there ↦ absurd (cc (there.1)) ])
+]
 
--- what the checks of a case jump say that fail, which they make in their order
-cases_tests : (size at count jump : ℕ) (made : Instr × ℕ) (f : OpFault)
-    → cond (ltb size (at + 6)) (Err fault.Cut) (cond (eqb count 0) (Err fault.CaseTable) (cond (eqb jump 185)
-    (cond (ltb size (at + 6 + 2 * count)) (Err fault.Cut) (Ok made)) (Err fault.CaseTable))) ≡ Err f
-    → ((f ≡ fault.Cut) × (size < at + 6))
-    ⊎ ((at + 6 ≤ size) × (((f ≡ fault.CaseTable) × ((count ≡ 0) ⊎ (jump ≢ 185)))
-    ⊎ ((f ≡ fault.Cut) × (0 < count) × (jump ≡ 185) × (size < at + 6 + 2 * count))))
-cases_tests size at count jump made f e = grind (arith, nat_tests)
+-- which check of a case jump fails whose W1, W2 and UJP are there, where P says that the UJP is one
+cases_tests : {P : Type 0} (size at jump : ℕ) (low high : ℤ) (made : Instr × ℕ) (f : OpFault) → at + 6 ≤ size → (jump ≡ 185) ↔ P
+    → (cond (ltb size (at + 6)) (Err fault.Cut) (cond (eqb (cases low high) 0) (Err fault.CaseTable) (cond (eqb jump 185)
+    (cond (ltb size (at + 6 + 2 * cases low high)) (Err fault.Cut) (Ok made)) (Err fault.CaseTable))) ≡ Err f)
+    ↔ (((f ≡ fault.CaseTable) × ((high <ℤ low) ⊎ ¬ P))
+    ⊎ ((f ≡ fault.Cut) × (low ≤ℤ high) × P × (size < at + 6 + 2 * cases low high)))
+cases_tests size at jump low high made f long is = grind (arith, ints, nat_tests)
+
+-- one that is cut off
+cases_cut : (code : List ℕ) (i : ℕ) (f : OpFault) → length code < i + 6 → (case_jump_at code i ≡ Err f) ↔ LacksCases code i f
+cases_cut code i f short = grind (arith, nat_tests)
 
 -- words and bytes that are there
 words_there : (code : List ℕ) (at : ℕ) → at + 6 ≤ length code
     → SignedWord code at (signed_word code at) (at + 2) × SignedWord code (at + 2) (signed_word code (at + 2)) (at + 4)
 words_there code at long = grind (arith, slice_get-get_or)
 
-byte_there : (code : List ℕ) (at b : ℕ) → at < length code → slice_index code at ≡ b → HasByte code at b
-byte_there code at b long e = grind (arith, slice_get-get_or)
-
-byte_is : (code : List ℕ) (at b : ℕ) → HasByte code at b → slice_index code at ≡ b
-byte_is code at b there = grind (arith, gets)
+byte_is : (code : List ℕ) (at b : ℕ) → at < length code → (slice_index code at ≡ b) ↔ HasByte code at b
+byte_is code at b long = grind (arith, slice_get-get_or, gets)
 
 word_is : (code : List ℕ) (at j : ℕ) (w : ℤ) → SignedWord code at w j → w ≡ signed_word code at
 word_is code at j w there = grind (arith, gets)
 
-no_cases : (low high : ℤ) → cases low high ≡ 0 → high <ℤ low
-no_cases low high h = grind (arith, ints)
-
-none_of_cases : (low high : ℤ) → high <ℤ low → cases low high ≡ 0
-none_of_cases low high h = grind (arith, ints)
-
-some_of_cases : (low high : ℤ) → low ≤ℤ high → 0 < cases low high
-some_of_cases low high h = grind (arith, ints)
-
-in_order : (low high : ℤ) → 0 < cases low high → low ≤ℤ high
-in_order low high h = grind (arith, ints)
-
-cases_lacking : (code : List ℕ) (i : ℕ) (f : OpFault) → case_jump_at code i ≡ Err f → LacksCases code i f
-cases_lacking code i f e = elim (cases_tests (length code) i
-    (cases (signed_word code i) (signed_word code (i + 2))) (slice_index code (i + 4)) _ f e) [
-      | inl cut ↦ inl cut
-      | inr h ↦ let words = words_there code i h.0 in inr (
-        _,
-        _,
-        words.0,
-        words.1,
-        h.0,
-        elim h.1 [
-          | inl form ↦ inl (
-            form.0,
-            elim form.1 [
-              | inl none ↦ inl (no_cases _ _ none)
-              | inr other ↦ inr (λ there. other (byte_is code (i + 4) 185 there))
-            ],
-          )
-          | inr table ↦ inr (table.0, in_order _ _ table.1, byte_there code (i + 4) 185 (omega (arith, h.0)) table.2, table.3)
+lacking_cases : (code : List ℕ) (i : ℕ) (f : OpFault) → (case_jump_at code i ≡ Err f) ↔ LacksCases code i f
+lacking_cases code i f = elim (cases_lt (length code) (i + 6)) [
+  | inl short ↦ cases_cut code i f short
+  | inr long ↦
+      let words = words_there code i long in
+      let jump = byte_is code (i + 4) 185 (omega arith) in
+      let checks = cases_tests (length code) i _ (signed_word code i) (signed_word code (i + 2)) _ f long jump in (
+        λ e. inr (_, _, words.0, words.1, long, checks.0 e),
+        elim [
+          | inl cut ↦ absurd (omega (arith, cut.1))
+          | inr g ↦ checks.1 (rw (word_is code i _ _ g.2, word_is code (i + 2) _ _ g.3) at g.5)
         ],
       )
-    ]
-
--- checks that fail, by what they say
-tests_fail : (size at count jump : ℕ) (made : Instr × ℕ) (f : OpFault)
-    → ((f ≡ fault.Cut) × (size < at + 6))
-    ⊎ ((at + 6 ≤ size) × (((f ≡ fault.CaseTable) × ((count ≡ 0) ⊎ (jump ≢ 185)))
-    ⊎ ((f ≡ fault.Cut) × (0 < count) × (jump ≡ 185) × (size < at + 6 + 2 * count))))
-    → cond (ltb size (at + 6)) (Err fault.Cut) (cond (eqb count 0) (Err fault.CaseTable) (cond (eqb jump 185)
-    (cond (ltb size (at + 6 + 2 * count)) (Err fault.Cut) (Ok made)) (Err fault.CaseTable))) ≡ Err f
-tests_fail size at count jump made f h = grind (arith, nat_tests)
-
-cases_fail : (code : List ℕ) (i : ℕ) (f : OpFault) → LacksCases code i f → case_jump_at code i ≡ Err f
-cases_fail code i f h =
-    tests_fail (length code) i (cases (signed_word code i) (signed_word code (i + 2))) (slice_index code (i + 4)) _ f (elim h [
-      | inl cut ↦ inl cut
-      | inr g ↦
-          let low = word_is code i (i + 2) g.0 g.2 in
-          let high = word_is code (i + 2) (i + 4) g.1 g.3 in
-          inr (
-            g.4,
-            elim g.5 [
-              | inl form ↦ inl (
-                form.0,
-                elim form.1 [
-                  | inl none ↦ inl (none_of_cases _ _ (rw (low, high) at none))
-                  | inr other ↦ inr (λ there. other (byte_there code (i + 4) 185 (omega (arith, g.4)) there))
-                ],
-              )
-              | inr table ↦
-                  let some = some_of_cases _ _ (rw (low, high) at table.1) in
-                  inr (table.0, some, byte_is code (i + 4) 185 table.2, rw (low, high) at table.3)
-            ],
-          )
-    ])
-
-lacking_cases : (code : List ℕ) (i : ℕ) (f : OpFault) → (case_jump_at code i ≡ Err f) ↔ LacksCases code i f
-lacking_cases code i f = (cases_lacking code i f, cases_fail code i f)
+]
 
 -- ---- an opcode and what follows it
 

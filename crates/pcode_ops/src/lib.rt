@@ -34,5 +34,5 @@ pub use fault::{LoadFault, LoadRefused, OpFault};
 pub use instr::{Instr, StandardProcedure};
 pub use operation::Operation;
 pub use program::Program;
-pub use superinstruction::{MOST_PARTS, Pushed, Sink, Source, Superinstruction};
+pub use superinstruction::{MOST_COMPONENTS, Pushed, Sink, Source, Superinstruction};
 pub use text::{TextWriter, UpToFault};

@@ -22,13 +22,13 @@ fn alone(alloc: Global) -> Result<Protocol<MemoryStore>, NodeFault>
     let config = Config::new(1, GROUP.size, GROUP.session)?;
     let waiting = Waiting::new(alloc)?; // all room is made before the start is saved
     let store = MemoryStore::new(Record::new(alloc));
-    let mut acceptor = match Acceptor::open(alloc, store, config.me()) {
+    let acceptor = match Acceptor::open(alloc, store, config.me()) {
         Ok(acceptor) => acceptor,
         Err(refused) => return Err(node_fault(refused.fault)), // the store is refused.store
     };
-    match acceptor.new_start() {
-        Ok(_) => Ok(Protocol::new(alloc, &config, acceptor, waiting)),
-        Err(fault) => Err(node_fault(fault)),
+    match Protocol::start(alloc, &config, acceptor, waiting) {
+        Ok(part) => Ok(part), // its start is counted, and saved
+        Err(refused) => Err(refused.fault), // the store is refused.store
     }
 }
 
@@ -77,7 +77,7 @@ fn learned_alone(alloc: Global) -> Result<(Option<u8>, Option<u8>, usize), Fail>
     Ok((next_byte(&part, 0), next_byte(&part, 1), part.waiting()))
 }
 
-/// Shows Protocol::new (known), Protocol::typed (ok, knows), Protocol::campaign (responds),
+/// Shows Protocol::start (known), Protocol::typed (ok, knows), Protocol::campaign (responds),
 /// Protocol::on_message (responds), Protocol::tick (does), Protocol::learner, Protocol::waiting
 /// (count): the example of docs/LIBRARY.md. The typed byte is the learned input.
 #[test]

@@ -1,7 +1,6 @@
-use Rattle.std.proofs.Common.{rules, ◌≡◌, ◌+◌, ◌<◌, [], ◌∷◌, ◌++◌, length, ap, subst, sym, ◌∙◌}
-use Rattle.std.specs.Prelude.{vec_len}
-use Rattle.group_world.specs.Scripts.{header_of, line_of, lines_of, lines_say}
-use Rattle.group_world.proofs.ScriptLines.{IsReadTo, all_read, bad_line, group_and_lines, grown, no_group, read_next, reached}
+use Rattle.std.proofs.Common.{rules, ◌≡◌, ◌+◌, ◌<◌, length, ap, sym, ◌∙◌}
+use Rattle.group_world.specs.Scripts.{header_of, line_of}
+use Rattle.group_world.proofs.ScriptLines.{all_read, bad_line, no_group, read_next, reached, script_then}
 use Rattle.group_world.proofs.script.read_script.Goals as goal
 
 -- the first line says nothing
@@ -17,12 +16,9 @@ returns-in_default-read_line-clause-refused c =
     let rest = c.loop-rest.rest.now in
     let header = ap header_of (sym c.first_line.ensures.line) ∙ (sym c.read_header.ensures ∙ c.in-Some.is) in
     let line = ap line_of (sym c.first_line-in-loop-rest.ensures.line) ∙ (sym c.read_line.ensures ∙ c.in_default-read_line.is) in
-    let bad = bad_line _ _ rest (search rules) line in
-    let lines = c.loop-rest.invariant.1 ∙ bad in
-    let all =
-    group_and_lines text (c.in-Some.size, c.in-Some.session) _ header
-    (ap (λ t. lines_say 2 (lines_of t)) (sym c.first_line.ensures.rest) ∙ lines) in
-    λ _. rw c.len-number.ensures all
+    let read = rw c.first_line.ensures.rest at c.loop-rest.invariant.1 in
+    let number : c.len-number.result + 2 ≡ length c.loop-rest.lines.items + 2 = search rules in
+    λ _. rw number (script_then text (c.in-Some.size, c.in-Some.session) header read (bad_line _ _ rest (search rules) line))
 
 -- memory ran out at a line
 pub returns-then-is_err-clause-no_memory : goal.returns-then-is_err-clause-no_memory
@@ -32,8 +28,7 @@ returns-then-is_err-clause-no_memory c =
     let header = ap header_of (sym c.first_line.ensures.line) ∙ (sym c.read_header.ensures ∙ c.in-Some.is) in
     let some : 0 < length rest = search (rules, c.is_empty.ensures, c.loop-rest-test.true) in
     let number : c.len-number.result + 2 ≡ length c.loop-rest.lines.items + 2 = search rules in
-    let read = subst (λ t. IsReadTo (lines_of t) c.loop-rest.lines.items (lines_of rest)) c.first_line.ensures.rest
-    c.loop-rest.invariant.2 in
+    let read = rw c.first_line.ensures.rest at c.loop-rest.invariant.1 in
     λ _. reached text (c.in-Some.size, c.in-Some.session) _ rest (c.len-number.result + 2) header read some number
 
 -- one more line is read
@@ -41,16 +36,9 @@ pub loop-rest-preserved : goal.loop-rest-preserved
 loop-rest-preserved c =
     let rest = c.loop-rest.rest.now in
     let line = ap line_of (sym c.first_line-in-loop-rest.ensures.line) ∙ (sym c.read_line.ensures ∙ c.in-Some-read_line.is) in
-    let some : 0 < length rest = search (rules, c.is_empty.ensures, c.loop-rest-test.true) in
-    let items : c.push.new.self.items ≡ c.loop-rest.lines.items ++ c.in-Some-read_line.said ∷ [] = search rules in
-    let number : vec_len c.push.new.self + 2 ≡ (vec_len c.loop-rest.lines + 2) + 1 = search rules in (
+    let some : 0 < length rest = search (rules, c.is_empty.ensures, c.loop-rest-test.true) in (
       search rules,
-      c.loop-rest.invariant.1
-          ∙ grown _ c.push.new.self.items _ (vec_len c.push.new.self + 2) rest c.first_line-in-loop-rest.result.1.now _ some line
-          c.first_line-in-loop-rest.ensures.rest items number,
-      read_next _ _ c.push.new.self.items rest
-          c.first_line-in-loop-rest.result.1.now _ c.loop-rest.invariant.2 some line
-          c.first_line-in-loop-rest.ensures.rest items,
+      read_next _ _ c.push.new.self.items rest _ _ c.loop-rest.invariant.1 some line c.first_line-in-loop-rest.ensures.rest (search rules),
     )
 
 -- all lines are read
@@ -59,7 +47,5 @@ returns-clause-read c =
     let text = c.args.text.now in
     let rest = c.loop-rest.rest.now in
     let header = ap header_of (sym c.first_line.ensures.line) ∙ (sym c.read_header.ensures ∙ c.in-Some.is) in
-    let end = all_read _ _ rest (search rules) in
-    let lines = c.loop-rest.invariant.1 ∙ end in
-    group_and_lines text (c.in-Some.size, c.in-Some.session) _ header
-    (ap (λ t. lines_say 2 (lines_of t)) (sym c.first_line.ensures.rest) ∙ lines)
+    let read = rw c.first_line.ensures.rest at c.loop-rest.invariant.1 in
+    script_then text (c.in-Some.size, c.in-Some.session) header read (all_read _ _ rest (search rules))

@@ -1,5 +1,4 @@
-use Rattle.pcode_ops.proofs.DecodedIsAt.{at_decoded}
-use Rattle.pcode_ops.proofs.DecodedIsAt.{decoded_at}
+use Rattle.pcode_ops.proofs.DecodedIsAt.{decoded_at, at_decoded}
 use Rattle.pcode_ops.proofs.laws.decoding_is_at.Goals as goal
 
 pub returns : goal.returns

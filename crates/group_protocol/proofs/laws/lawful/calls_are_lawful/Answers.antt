@@ -7,7 +7,7 @@ use Rattle.base.proofs.Lists.{all_of_one}
 use Rattle.paxos_msg.specs.declared.ballot.Ballot.{Ballot}
 use Rattle.paxos_msg.specs.declared.value.Value.{Value}
 use Rattle.paxos_msg.specs.declared.record.Change.TheVariants as change
-use Rattle.paxos_msg.specs.declared.message.Body.TheVariants.{Accept, Prepare, Promise}
+use Rattle.paxos_msg.specs.declared.message.Body.TheVariants.{Accept, Prepare}
 use Rattle.paxos_msg.specs.Ballots.{IsAtMost, IsBelow}
 use Rattle.paxos_msg.specs.Batches.{IsTyped, Sent}
 use Rattle.paxos_msg.specs.Keys.{Key, keys_from, keys_of}

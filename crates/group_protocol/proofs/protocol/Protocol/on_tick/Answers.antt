@@ -15,8 +15,6 @@ use Rattle.group_protocol.specs.Packets.{Datagram, Packet, datagram_of, datagram
 use Rattle.group_protocol.specs.Pump.{accepts_of, pump}
 use Rattle.group_protocol.specs.Ranges.{IsInRange}
 use Rattle.group_protocol.specs.States.{Protocol}
-use Rattle.std.proofs.lemmas.Result.{err_from_is_err_and}
-use Rattle.group_protocol.specs.declared.fault.NodeFault.TheVariants.{Memory}
 use Rattle.group_protocol.proofs.protocol.Protocol.on_tick.Goals as goal
 use Rattle.group_protocol.proofs.protocol.Protocol.on_tick.Goals.{in-Some+in-Ok, in_default}
 

@@ -1,9 +1,6 @@
 use Rattle.std.proofs.Common.{refl}
-use Rattle.group_world.proofs.GroupCalls.{above, asks_so, lent_up, unchanged_on_err}
+use Rattle.group_world.proofs.GroupCalls.{asks_so, lent_up, unchanged_on_err}
 use Rattle.group_world.proofs.group.GroupState.ask.Goals as goal
-
-pub index_of-requires : goal.index_of-requires
-index_of-requires c = above c.requires.up
 
 pub ask-done-requires-clause-up : goal.ask-done-requires-clause-up
 ask-done-requires-clause-up c =

@@ -3,12 +3,9 @@ use Rattle.std.proofs.lemmas.Result.{IfOk-weaker}
 use Rattle.group_node.specs.Deeds as deed
 use Rattle.group_protocol.specs.Packets.{Datagram}
 use Rattle.group_world.specs.declared.member.Ask.TheVariants.{Hear}
-use Rattle.group_world.proofs.GroupCalls.{above, asks_so, delivered, lent_up, unchanged_on_err}
+use Rattle.group_world.proofs.GroupCalls.{asks_so, delivered, lent_up, unchanged_on_err}
 use Rattle.group_world.proofs.WorldAsGroup.{running}
 use Rattle.group_world.proofs.group.GroupState.deliver.Goals as goal
-
-pub index_of-requires : goal.index_of-requires
-index_of-requires c = above c.requires.up
 
 pub ask-done-requires-clause-up : goal.ask-done-requires-clause-up
 ask-done-requires-clause-up c =

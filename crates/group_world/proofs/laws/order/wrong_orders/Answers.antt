@@ -1,4 +1,4 @@
-use Rattle.group_world.proofs.WrongWorlds.{early, gap, twice}
+use Rattle.group_world.proofs.WrongGroups.{early, gap, twice}
 use Rattle.group_world.proofs.laws.order.wrong_orders.Goals as goal
 
 pub returns : goal.returns

@@ -5,17 +5,13 @@ use Rattle.group_world.proofs.HoldsAfterEvents.{EventLaws, always}
 use Rattle.group_world.proofs.SoundWorldsAgree.{PlayLaws, consoles_show_released}
 use Rattle.group_world.proofs.laws.processes.processes_show.Goals as goal
 
-laws : goal.After-processes_are_events → EventLaws
-laws c = assumption
-
-play : goal.After-processes_are_events → PlayLaws
-play c = assumption
-
 pub returns : goal.returns
 returns c =
+    let laws : EventLaws = assumption in
+    let play : PlayLaws = assumption in
     record {
       shows = λ p group log now size session h.
           let found = c.processes_are_events.ensures _ log now h in
-          always (laws c) {P = λ w. ConsolesShowReleased (world_state w)} (λ w holds. consoles_show_released (play c) w holds.sound)
+          always laws {P = λ w. ConsolesShowReleased (world_state w)} (λ w holds. consoles_show_released play w holds.sound)
           p group found.0 _ size session found.2;
     }

@@ -2,17 +2,14 @@
 use Rattle.group_world.proofs.SoundWorldsAgree.{consoles_agree, consoles_hold_output, has_no_gap, learned_agree, learned_chosen, ChoiceLaws, PlayLaws}
 use Rattle.group_world.proofs.laws.sound.sound_worlds_agree.Goals as goal
 
-chosen : goal.After-prefixes_are_ordered → ChoiceLaws
-chosen c = assumption
-
-play : goal.After-prefixes_are_ordered → PlayLaws
-play c = assumption
-
 pub returns : goal.returns
-returns c = record {
-  learned_agree = learned_agree (chosen c);
-  learned_chosen = learned_chosen (chosen c);
-  consoles_hold_output = consoles_hold_output (play c);
-  consoles_agree = consoles_agree (play c);
-  no_gap = has_no_gap (play c);
-}
+returns c =
+    let chosen : ChoiceLaws = assumption in
+    let play : PlayLaws = assumption in
+    record {
+      learned_agree = learned_agree chosen;
+      learned_chosen = learned_chosen chosen;
+      consoles_hold_output = consoles_hold_output play;
+      consoles_agree = consoles_agree play;
+      no_gap = has_no_gap play;
+    }

@@ -1,14 +1,13 @@
-use Rattle.std.proofs.Common.{◌≡◌, ◌∙◌, None, ap, subst, sym}
-use Rattle.paxos_acceptor.specs.Records.{IsRecord}
+use Rattle.std.proofs.Common.{◌≡◌, ◌∙◌, None, ap, sym}
 use Rattle.group_protocol.specs.Known.{Known}
 use Rattle.group_world.specs.Member.{running_of, store_of}
-use Rattle.group_world.proofs.MemberCalls.{down_kept, FailsToStart, start_changes_nothing, start_fails, start_happens}
+use Rattle.group_world.proofs.MemberCalls.{FailsToStart, settled_kept, start_fails, start_happens}
 use Rattle.group_world.proofs.member.Member.start.Goals as goal
 
 pub invariant_of-self : goal.invariant_of-self
 invariant_of-self c =
     let h = c.in-Ok.ensures in
-    rw c.put.ensures (record { works = h.fresh.stops; stored = (h.from tt).saved ∙ ap (λ (n : Known). n.kept) (sym (h.from tt).known) })
+    rw c.put.ensures (record { works = h.fresh.works; stored = (h.from tt).saved ∙ ap (λ (n : Known). n.kept) (sym (h.from tt).known) })
 
 pub returns-in-Ok-clause-ends : goal.returns-in-Ok-clause-ends
 returns-in-Ok-clause-ends c =
@@ -37,17 +36,12 @@ fails c =
       others = h.others;
     }
 
-pub returns-in-Err-clause-ends : goal.returns-in-Err-clause-ends
-returns-in-Err-clause-ends c =
+pub returns-in-Err : goal.returns-in-Err
+returns-in-Err c =
+    let h = c.settle.ensures in
     let ranges = rw (← c.self.view_is) at c.requires.ranges in
-    start_fails c.args.plan _ _ c.self.inside.up_or_down c.self.inside.console.bytes _ (is_down c) c.self.view_is _ _ _ _ c.settle.result
-    c.put-in-Err.ensures (fails c) c.settle.ensures.fell c.settle.ensures.stays
-    (subst (IsRecord c.args.config.group.size) (down_kept c.self.inside.up_or_down (is_down c)) ranges) c.settle.ensures.done
-
-pub returns-in-Err-clause-err : goal.returns-in-Err-clause-err
-returns-in-Err-clause-err c =
-    start_changes_nothing c.args.plan _ c.args.program.now c.self.inside.up_or_down c.self.inside.console.bytes _ (is_down c) c.self.view_is
-    _ _ _ _ c.settle.result c.put-in-Err.ensures (fails c) c.settle.ensures.fell c.settle.ensures.stays c.settle.ensures.memory
-
-pub returns-in-Err-clause-memory : goal.returns-in-Err-clause-memory
-returns-in-Err-clause-memory c = c.settle.ensures.fault
+    let (ends, err) =
+    start_fails c.args.plan _ c.args.program.now c.self.inside.up_or_down c.self.inside.console.bytes _ (is_down c) c.self.view_is _ _ _ _
+    c.settle.result c.put-in-Err.ensures (fails c) h.fell h.stays
+    (rw (settled_kept c.self.inside.up_or_down c.self.invariant) ranges) h.done h.memory in
+    record { ends = ends; err = err; memory = h.fault }

@@ -1,6 +1,7 @@
-use Rattle.std.proofs.Common.{◌∙◌, IfOk, inl, inr, refl, rules, sym}
+use Rattle.std.proofs.Common.{◌∙◌, Err, IfOk, inl, inr, refl, rules, sym}
 use Rattle.std.proofs.lemmas.Result.{IfErr-weaker, IfOk-weaker}
-use Rattle.group_world.specs.Event.{Goes, plan_of}
+use Rattle.group_world.specs.Event.{Goes, IsStep, plan_of}
+use Rattle.group_world.specs.Refusals.{Applies}
 use Rattle.group_world.specs.Group.{World, world_state}
 use Rattle.group_world.specs.Headline.{ConsolesAgree, ConsolesGrow, ConsolesHoldOutput, HasNoGap, LearnedAgree, LearnedChosen, LearnedStays}
 use Rattle.group_world.specs.Order.{KeysOnce, SerialsInOrder}
@@ -47,32 +48,20 @@ pub returns-in-Some : goal.returns-in-Some
 returns-in-Some c =
     let held = c.self.invariant in
     let k = claims (goal.at.returns-in-Some c).After-refusal _ _ held held (grows_none _ _ refl) in
-    rw (← c.self.view_is) (record {
-      applies =
-          record { goes = tt; step = tt; taken = tt; same = refl; refused = inl (sym c.refusal.ensures ∙ c.in-Some.is) };
-      learned_stays = k.learned_stays;
-      consoles_grow = k.consoles_grow;
-      learned_agree = k.learned_agree;
-      learned_chosen = k.learned_chosen;
-      consoles_hold_output = k.consoles_hold_output;
-      consoles_agree = k.consoles_agree;
-      no_gap = k.no_gap;
-      key_once = k.key_once;
-      serials_in_order = k.serials_in_order;
-    })
+    let applies : Applies c.self.inside.group c.args.event.now (Err c.in-Some.fault) c.self.inside.group =
+    record { goes = tt; step = tt; taken = tt; same = refl; refused = inl (sym c.refusal.ensures ∙ c.in-Some.is) } in
+    rw (← c.self.view_is) assumption
 
 -- ---- one that is not
 
 pub perform-requires : goal.perform-requires
 perform-requires c = record { sound = c.self.invariant.sound; taken = sym c.in_default.ensures }
 
-laws : goal.After-perform → EventLaws
-laws c = assumption
-
 -- the world after the event is sound and ordered
 holds : (c : goal.After-perform) → Holds c.perform.new.self
 holds c =
-    event_holds (laws c) c.args.event.now c.perform.result c.self.invariant (rw (← c.plan.ensures) c.perform.ensures.acts)
+    let laws : EventLaws = assumption in
+    event_holds laws c.args.event.now c.perform.result c.self.invariant (rw (← c.plan.ensures) c.perform.ensures.acts)
     c.perform.ensures.err
 
 pub invariant_of-self : goal.invariant_of-self
@@ -83,8 +72,8 @@ returns c =
     let r = c.perform.result in
     let goes : IfOk r (λ d. Goes c.self.inside.group c.args.event.now d c.perform.new.self) =
     rw (← c.plan.ensures) c.perform.ensures.acts in
-    let step = IfOk-weaker r _ _
-    (λ d goes. (
+    let step : IfOk r (λ d. IsStep (world_state c.self.inside.group) c.args.event.now.act d (world_state c.perform.new.self)) =
+    IfOk-weaker r _ _ (λ d goes. (
       goes.deed,
       goes.is_deed,
       c.deeds_keep_it_sound.ensures.step c.self.inside.group _ _ (plan_of _) goes.deed d c.self.invariant.sound
@@ -92,21 +81,11 @@ returns c =
     )) goes in
     let k = claims (goal.at.returns c).After-refusal _ _ c.self.invariant (holds c)
     (answer_grows c.self.inside.group _ _ r step c.perform.ensures.err) in
-    rw (← c.self.view_is) (record {
-      applies = record {
-        goes = goes;
-        step = step;
-        taken = let none = sym c.in_default.ensures in search rules;
-        same = c.perform.ensures.err;
-        refused = IfErr-weaker r _ _ (λ f memory. inr (sym c.in_default.ensures, memory)) c.perform.ensures.memory;
-      };
-      learned_stays = k.learned_stays;
-      consoles_grow = k.consoles_grow;
-      learned_agree = k.learned_agree;
-      learned_chosen = k.learned_chosen;
-      consoles_hold_output = k.consoles_hold_output;
-      consoles_agree = k.consoles_agree;
-      no_gap = k.no_gap;
-      key_once = k.key_once;
-      serials_in_order = k.serials_in_order;
-    })
+    let applies : Applies c.self.inside.group c.args.event.now r c.perform.new.self = record {
+      goes = goes;
+      step = step;
+      taken = let none = sym c.in_default.ensures in search rules;
+      same = c.perform.ensures.err;
+      refused = IfErr-weaker r _ _ (λ f memory. inr (sym c.in_default.ensures, memory)) c.perform.ensures.memory;
+    } in
+    rw (← c.self.view_is) assumption

@@ -1,6 +1,7 @@
 -- Each kind of deed keeps a world ordered, so any deed does; and the world before all events is
 -- ordered.
-use Rattle.std.proofs.Common.{◌≡◌, ◌∙◌, ℕ, ◌+◌, ◌≤◌, List, [], ◌∷◌, ◌++◌, take, Option, Some, None, IfSome, refl, sym, ap, subst, inl, inr, arith, Bool, true, false, ◌-◌, slice_set}
+use Rattle.std.proofs.Common.{◌≡◌, ◌∙◌, ℕ, ◌+◌, ◌≤◌, List, [], ◌∷◌, ◌++◌, take, Option, Some, None, IfSome, refl, sym, ap, subst, inl, inr, arith, Bool, if◌then◌else◌, ◌-◌, slice_set}
+use Rattle.std.proofs.lemmas.Bool.Decides.{nat_tests}
 use Rattle.std.proofs.lemmas.List.{append-nil, length-append}
 use Rattle.std.proofs.lemmas.List.Concat.{flat_map-append}
 use Rattle.std.proofs.lemmas.List.Elements.{All-contains, Contains-append_cases, Contains-append_left, Contains-append_right, filter_map-append, Contains-get_or, Contains-push_cases}
@@ -23,7 +24,7 @@ use Rattle.group_protocol.specs.WaitingKeys.{batch_of, waiting_keys}
 use Rattle.group_node.specs.Output.{Progress, no_progress}
 use Rattle.group_protocol.specs.Packets.{Datagram, Packet, datagrams_of}
 use Rattle.group_world.specs.Group.{IsUp, me_of, member_at, message_of, messages_in, with_member, World, world_state, new_world}
-use Rattle.group_world.specs.Member.{Member, member_after_call, Running, at_progress, failing, Makes, Refuses, call_of_start, member_after_release, save_outcome, NodeCall}
+use Rattle.group_world.specs.Member.{Member, member_after_call, Running, at_progress, failing, Makes, Refuses, member_after_release, save_outcome, NodeCall}
 use Rattle.group_world.specs.Ordered.{IsDue, IsOrdered, AreTypedKeys, IsRowOf, AreTypedInOrder}
 use Rattle.group_world.specs.Sound.{IsSound, IsSpelling}
 use Rattle.group_world.proofs.laws.order.deeds_keep_order.Answers.OrderNodes.{Goes, read_of, campaign_goes, message_goes, tick_goes, AreAsked, Laws, none_asked, submit_found}
@@ -33,7 +34,7 @@ use Rattle.group_world.proofs.WorldAsGroup.{running, first_node, each_changed}
 use Rattle.pcode_file.specs.Parts.{Parts}
 use Rattle.paxos_msg.specs.declared.message.Group.{Group}
 use Rattle.group_world.specs.declared.event.Done.{Done}
-use Rattle.group_world.specs.Deeds.{DoesDeed, EndsCall, Left}
+use Rattle.group_world.specs.Deeds.{DoesDeed, Left}
 use Rattle.group_world.specs.Event.{DoesAt, world_after}
 use Rattle.group_world.proofs.CallLeaves.{Leaves, LeavesBy, idle_leads, leaves_so, quiet_leads, world_after_call, world_after_fall}
 use Rattle.group_node.specs.Deeds as deed
@@ -97,14 +98,15 @@ module _ (typed : List Key) (members : List Member) (h : AreTypedInOrder typed m
 due_later : Laws → (size : ℕ) (sent more : Sent) (v : Value) → IsDue size sent v → IsDue size (sent ++ more) v
 due_later laws size sent more Noop due = tt
 due_later laws size sent more (Keys node start first bytes) (inl one) = inl one
-due_later laws size sent more (Keys node start first bytes) (inr p) = inr (record {
-  below = p.below;
-  chosen = record { chosen = λ s v e. laws.sent_only_grows.ensures.chosen size s sent more v (p.chosen.chosen s v e) };
-  before = p.before;
-  next = p.next;
-  has = p.has;
-  lacks = p.lacks;
-})
+due_later laws size sent more (Keys node start first bytes) (inr p) =
+    inr (record {
+      below = p.below;
+      chosen = record { chosen = λ s v e. laws.sent_only_grows.ensures.chosen size s sent more v (p.chosen.chosen s v e) };
+      before = p.before;
+      next = p.next;
+      has = p.has;
+      lacks = p.lacks;
+    })
 
 -- keys that were read stay read
 read_more : Laws → (old new : FinMap nat_cmp Value) → HasLearnedMore old new → (k : Key)
@@ -261,8 +263,8 @@ module _ (laws : Laws) {w v : World} (plan : Option Bool) (d : Done) (sound : Is
         → (v ≡ world_after_call w i made m.console progress keys → IsOrdered v) → (o : Option Bool)
         → LeavesBy w i m progress (save_outcome m.kept made keys o) d v → IsOrdered v
     saves_by made progress keys more went None (answer, e) = went e
-    saves_by made progress keys more went (Some true) (answer, e) = rw e (fallen_world laws sound h i there _ more)
-    saves_by made progress keys more went (Some false) (answer, e) = rw e (fallen_world laws sound h i there m.kept (omega arith))
+    saves_by made progress keys more went (Some is_kept) (answer, e) =
+        rw e (fallen_world laws sound h i there (if is_kept then made.node.kept else m.kept) (grind (arith, nat_tests)))
 
   module _ {i : ℕ} {m : Member} {q : Running} (up : IsUp w i m q) where
     -- a call that submits this at most
@@ -292,11 +294,10 @@ module _ (laws : Laws) {w v : World} (plan : Option Bool) (d : Done) (sound : Is
     deed_by : (e : Deed) → DoesDeed w.program (me_of w i) m plan e left → IsOrdered v
     deed_by deed.Idle is = rw (leads ∙ idle_leads w i m there is) h
     deed_by (deed.Start r) (down, over, ends) =
-        let ends_so = subst (λ r. EndsCall (me_of w i) m (no_progress w.program) plan (call_of_start (me_of w i) r) left) over ends in
         start_cases (Ordered i m (no_progress w.program)) (refused_by i m (no_progress w.program)) (me_of w i) m.kept
         (λ other. saves_by i there (on_start (me_of w i) m.kept) _ [] (omega arith)
         (λ e. rw e (started_world laws sound h i there m.console (no_progress w.program) (rw e at after)))
-        (failing (on_start (me_of w i) m.kept).saves plan)) (leaves_so w i m there _ plan _ ends_so answers leads)
+        (failing (on_start (me_of w i) m.kept).saves plan)) (leaves_so w i m there _ plan _ (rw over at ends) answers leads)
     deed_by (deed.Hear message) (q, up, ends) =
         let made = on_message q.known message.sender message.body in
         silent_by (record { there = there; up = up }) made (message_goes laws q.known message.sender message.body)

@@ -1,18 +1,18 @@
 -- A node's row after each of its calls: its start, its serials, the keys that wait and what it has
 -- learned; and the Submits that the calls send, as packets and as messages of the group.
-use Rattle.std.proofs.Common.{◌&&◌, not, All, IfSome, option_map, nat_lt, is_none, ◌≡◌, ◌∙◌, ℕ, suc, ◌+◌, ◌≤◌, Bool, true, false, List, [], ◌∷◌, length, Option, Some, None, if◌then◌else◌, refl, sym, ap, arith, get_or, subst, inl, inr, ◌++◌}
+use Rattle.std.proofs.Common.{◌&&◌, not, All, ◌≡◌, ◌∙◌, ℕ, suc, ◌+◌, ◌≤◌, Bool, true, false, List, [], ◌∷◌, length, Option, Some, None, if◌then◌else◌, refl, sym, ap, arith, get_or, subst, ◌++◌}
 use Rattle.std.proofs.lemmas.Bool.Decides.{nat_tests}
 use Rattle.paxos_msg.specs.Tests.{same_ballot}
-use Rattle.paxos_proposer.specs.Proposer.{next_of, coverage_of, is_covered, proposed_at, proposer_after_part, asks_on, Proposer}
+use Rattle.paxos_proposer.specs.Proposer.{next_of, is_covered, proposer_after_part, asks_on, Proposer}
 use Rattle.group_protocol.specs.ProposerRows.{is_known, offer_after, offering, prepare_from, proposing_on, submitted, taking_part, on_campaign}
-use Rattle.std.proofs.lemmas.List.Elements.{All-take, All-contains, All-append, All-cons, All-nil}
-use Rattle.std.specs.FinMap.{FinMap, get}
+use Rattle.std.proofs.lemmas.List.Elements.{All-map, All-take, All-contains, All-append, All-cons, All-nil}
+use Rattle.std.specs.FinMap.{FinMap}
 use Rattle.std.specs.Ordering.{nat_cmp}
-use Rattle.std.specs.List.{range_with_len, Contains, cons_option, filter_map}
-use Rattle.group_protocol.specs.Known.{front, Response, next_serial, Known, quiet}
+use Rattle.std.specs.List.{range_with_len, Contains, filter_map}
+use Rattle.group_protocol.specs.Known.{Response, next_serial, Known, quiet}
 use Rattle.group_protocol.specs.LearnerRows.{tell_packet}
-use Rattle.group_protocol.specs.Tick.{accepts_again, asks_again, prepares_again, submits, asks, on_tick, ticked}
-use Rattle.group_protocol.specs.Packets.{to_all, to_one, Datagram, Packet, datagram_of, datagrams_of}
+use Rattle.group_protocol.specs.Tick.{accept_again, accepts_again, asks_again, prepares_again, asks, on_tick, ticked}
+use Rattle.group_protocol.specs.Packets.{Datagram, Packet, datagram_of, datagrams_of}
 use Rattle.std.proofs.lemmas.Option.{same_Some}
 use Rattle.std.proofs.lemmas.List.{length-drop}
 use Rattle.paxos_msg.specs.declared.ballot.Ballot.{Ballot}
@@ -20,7 +20,7 @@ use Rattle.paxos_msg.specs.declared.message.Body.TheVariants.{Accept, Accepted, 
 use Rattle.paxos_msg.specs.declared.value.Value.{Value}
 use Rattle.paxos_msg.specs.Batches.{Body, Record, Vote, Msg}
 use Rattle.paxos_msg.specs.Keys.{Key, keys_from}
-use Rattle.paxos_acceptor.specs.Answers.{accepted, after, Answer, prepared, voted}
+use Rattle.paxos_acceptor.specs.Answers.{accept_of, after, Answer, prepare_of}
 use Rattle.paxos_learner.specs.Learner.{HasLearnedMore, Learner}
 use Rattle.paxos_learner.specs.Input.{front_values, keys_in_order}
 use Rattle.group_protocol.specs.declared.packet.To.{To}
@@ -38,9 +38,8 @@ use Rattle.paxos_msg.specs.Bodies.{kind_of}
 use Rattle.paxos_acceptor.specs.declared.me.Me.{Me}
 use Rattle.group_world.specs.Sound.{IsSpelling}
 use Rattle.group_world.specs.Group.{message_of, messages_in}
-use Rattle.group_world.proofs.OrderLists.{of_map}
+use Rattle.group_world.proofs.OrderLists.{all_images, of_filter_map, of_map}
 use Rattle.group_world.proofs.laws.order.deeds_keep_order.Goals as goal
-use Rattle.group_protocol.proofs.Elements.{first_in, in_cases, none_in, rest_in}
 
 -- The laws of the crates below that the law cites.
 abbrev pub Laws : Type 0
@@ -68,63 +67,33 @@ one_asked o packet h = All-cons (IsPacketAsked o) packet [] h (none_asked o)
 both_asked : (o : Option Value) (xs ys : List Packet) → AreAsked o xs → AreAsked o ys → AreAsked o (xs ++ ys)
 both_asked o = All-append (IsPacketAsked o)
 
--- Accepts
-accepts_asked : (o : Option Value) (votes : List Vote) → AreAsked o (accepts_of votes)
-accepts_asked o [] = none_asked o
-accepts_asked o (vote ∷ votes) = All-cons (IsPacketAsked o) _ (accepts_of votes) tt (accepts_asked o votes)
-
--- packets that are made of places
+-- what a call sends besides Submits
 module _ (o : Option Value) where
-  abbrev IfAsked : Option Packet → Type 0
-  IfAsked packet = IfSome packet (IsPacketAsked o)
-
-  if_asked : (t : Bool) (packet : Option Packet) → IfAsked packet → IfAsked (if t then packet else None)
-  if_asked true packet h = h
-  if_asked false packet h = tt
-
-  -- a packet of what is there, if it is
-  of_asked : {X : Type 0} (f : X → Packet) (x : Option X) → ((x : X) → IsPacketAsked o (f x)) → IfAsked (option_map f x)
-  of_asked f None h = tt
-  of_asked f (Some x) h = h x
-
-  cons_asked : (packet : Option Packet) (packets : List Packet) → IfAsked packet → AreAsked o packets
-      → AreAsked o (cons_option packet packets)
-  cons_asked None packets h rest = rest
-  cons_asked (Some packet) packets h rest = All-cons (IsPacketAsked o) packet packets h rest
-
-  -- a packet for each place, or none
-  each_asked : (f : ℕ → Option Packet) → ((s : ℕ) → IfAsked (f s)) → (places : List ℕ) → AreAsked o (filter_map f places)
-  each_asked f all [] = none_asked o
-  each_asked f all (s ∷ places) = cons_asked (f s) _ (all s) (each_asked f all places)
+  accepts_asked : (votes : List Vote) → AreAsked o (accepts_of votes)
+  accepts_asked votes = All-map (IsPacketAsked o) _ votes (λ k d below. tt)
 
   -- Tells
   tells_asked : (learned : FinMap nat_cmp Value) (j : ℕ) (places : List ℕ) → AreAsked o (filter_map (tell_packet learned j) places)
-  tells_asked learned j = each_asked _ (λ s. of_asked (λ v. to_one j (Tell s v)) (get learned s) (λ v. tt))
+  tells_asked learned j places = all_images (IsPacketAsked o) _ places (λ s among. grind (arith, nat_tests))
 
   -- the Prepares of a tick
   prepares_asked : (p : Proposer) → AreAsked o (prepares_again p)
-  prepares_asked p = by (is_covered p 65535) where
-    by : (t : Bool) → AreAsked o (if t then [] else filter_map (asks_again p) (range_with_len 1 p.size))
-    by true = none_asked o
-    by false = each_asked _ (λ i. if_asked (nat_lt (coverage_of p i) 65536) (Some _) tt) _
+  prepares_asked p =
+      let all = all_images (IsPacketAsked o) (asks_again p) (range_with_len 1 p.size) (λ i among. grind (arith, nat_tests)) in
+      grind (arith, nat_tests)
 
   -- the Accepts that a tick sends again
   again_asked : (learned : FinMap nat_cmp Value) (p : Proposer) → AreAsked o (accepts_again learned p)
   again_asked learned p =
-      All-take (IsPacketAsked o) 16 _ (each_asked _ (λ s. if_asked (is_none (get learned s)) _
-      (of_asked (λ v. to_all (Accept p.ballot s v)) (proposed_at p s) (λ v. tt))) _)
+      All-take (IsPacketAsked o) 16 _ (all_images (IsPacketAsked o) (accept_again learned p) _ (λ s among. grind (arith, nat_tests)))
 
   -- the Prepare after a part of a promise
   prepare_asked : (b : Ballot) (j : ℕ) (place : Option ℕ) → AreAsked o (prepare_from b j place)
-  prepare_asked b j None = none_asked o
-  prepare_asked b j (Some s) = one_asked o _ tt
+  prepare_asked b j place = grind (arith, nat_tests)
 
 -- of the packets with which a tick ends only the batch is a Submit
 asks_asked : (n : Known) → AreAsked (batch_of n n.waiting) (asks n)
-asks_asked n = both_asked _ _ _ (by (batch_of n n.waiting)) (one_asked _ (to_all (Ask (front n))) tt) where
-  by : (o : Option Value) → AreAsked o (submits o)
-  by None = none_asked None
-  by (Some v) = one_asked (Some v) _ refl
+asks_asked n = grind (arith, nat_tests)
 
 -- the keys below the front
 abbrev pub read_of : Known → List Key
@@ -168,19 +137,6 @@ record IsPlain (r : Record) (answer : Answer) : Type 0 where
   pub starts : (after r answer.saves).starts ≡ r.starts
   pub says : IsAsked None answer.says
 
-prepared_plain : (o : Option Ballot) (r : Record) (b : Ballot) (from : ℕ) → IsPlain r (prepared o r b from)
-prepared_plain (Some p) r b from = record { starts = refl; says = tt }
-prepared_plain None r b from =
-    record { starts = grind (arith, nat_tests); says = tt }
-
-voted_plain : (o : Option Value) (r : Record) (b : Ballot) (s : ℕ) (v : Value) → IsPlain r (voted o b s v)
-voted_plain (Some w) r b s v = record { starts = refl; says = tt }
-voted_plain None r b s v = record { starts = refl; says = tt }
-
-accepted_plain : (o : Option Ballot) (r : Record) (b : Ballot) (s : ℕ) (v : Value) → IsPlain r (accepted o r b s v)
-accepted_plain (Some p) r b s v = record { starts = refl; says = tt }
-accepted_plain None r b s v = voted_plain _ r b s v
-
 answering_stays : (n : Known) (to : To) (answer : Answer) → IsPlain n.kept answer → Stays n (answering n to answer)
 answering_stays n to answer h = record {
   starts = h.starts;
@@ -215,9 +171,11 @@ submit_stays n (Some p) v =
 
 -- a message of any kind
 row_stays : Laws → (n : Known) (j : ℕ) (body : Body) → Stays n (row n j body)
-row_stays laws n j (Prepare b from) = answering_stays n _ _ (prepared_plain _ n.kept b from)
+row_stays laws n j (Prepare b from) =
+    answering_stays n _ (prepare_of n.kept b from) (record { starts = grind (arith, nat_tests); says = grind (arith, nat_tests) })
 row_stays laws n j (Promise b first upto votes) = promise_stays n n.proposer j first upto b votes
-row_stays laws n j (Accept b s v) = answering_stays n _ _ (accepted_plain _ n.kept b s v)
+row_stays laws n j (Accept b s v) =
+    answering_stays n _ (accept_of n.kept b s v) (record { starts = grind (arith, nat_tests); says = grind (arith, nat_tests) })
 row_stays laws n j (Accepted b s v) = quiet_stays n (laws.learned_stays.ensures.accepted n.learner j s b v) (none_asked None)
 row_stays laws n j (Refused b promised) = quiet_stays n (same_learned n) (none_asked None)
 row_stays laws n j (Submit v) = submit_stays n n.proposer v
@@ -244,8 +202,7 @@ gone_next n =
     )
 
 first_by : (read keys : List Key) → ((k : Key) (ks : List Key) → keys ≡ k ∷ ks → ¬ Contains read k) → IsFirstUnread read keys
-first_by read [] h = tt
-first_by read (k ∷ ks) h = h k ks refl
+first_by read keys h = grind (arith, nat_tests, h)
 
 -- a message, after which keys that are read no longer wait
 pub message_goes : Laws → (n : Known) (j : ℕ) (body : Body) → Goes n None (on_message n j body)
@@ -273,11 +230,6 @@ message_goes laws n j body =
 still_parted : (n : Known) → IsFirstUnread (read_of n) (waiting_keys n) → IsParted (read_of n) (waiting_keys n) (waiting_keys n)
 still_parted n first = record { gone = []; parts = refl; below = λ k d less. absurd (omega arith); first = first }
 
--- a call that changes the proposer alone
-keys_wait : (n : Known) {o : Option Value} {p : Option Proposer} {packets : List Packet} → AreAsked o packets
-    → Goes n o (record { node = record n { proposer = p }; saves = None; sends = packets })
-keys_wait n asked = record { starts = refl; next = refl; learns = same_learned n; parted = still_parted n; asked = asked }
-
 pub campaign_goes : (n : Known) → Goes n None (on_campaign n)
 campaign_goes n = record { starts = refl; next = refl; learns = same_learned n; parted = still_parted n; asked = one_asked None _ tt }
 
@@ -287,27 +239,12 @@ tick_goes n = by n.proposer where
   by None = record { starts = refl; next = refl; learns = same_learned n; parted = still_parted n; asked = asks_asked n }
   by (Some p) =
       let o = batch_of n n.waiting in
-      keys_wait n (both_asked o _ _ (both_asked o _ _ (prepares_asked o p) (again_asked o _ p))
-      (both_asked o _ (asks n) (accepts_asked o _) (asks_asked n)))
+      let asked =
+      both_asked o _ _ (both_asked o _ _ (prepares_asked o p) (again_asked o n.learner.learned p))
+      (both_asked o _ (asks n) (accepts_asked o (pump 16 p).made) (asks_asked n)) in
+      record { starts = refl; next = refl; learns = same_learned n; parted = still_parted n; asked = asked }
 
 -- ---- the Submits among what a call of a node sends, as messages of its group
-
--- by the image of the first item
-of_cons : {X Y : Type 0} (f : X → Option Y) (x : X) (xs : List X) (y : Y) (o : Option Y) → f x ≡ o
-    → (Contains (filter_map f xs) y → (z : X) × Contains xs z × (f z ≡ Some y))
-    → Contains (cons_option o (filter_map f xs)) y
-    → (z : X) × Contains (x ∷ xs) z × (f z ≡ Some y)
-of_cons f x xs y None e later h = let found = later h in (found.0, rest_in x xs found.0 found.1, found.2)
-of_cons f x xs y (Some made) e later h = elim (in_cases made (filter_map f xs) y h) [
-  | inl same ↦ (x, first_in x xs, e ∙ ap (λ z. Some z) same)
-  | inr more ↦ let found = later more in (found.0, rest_in x xs found.0 found.1, found.2)
-]
-
--- an element of the images is the image of some item
-of_filter_map : {X Y : Type 0} (f : X → Option Y) (xs : List X) (y : Y) → Contains (filter_map f xs) y
-    → (x : X) × Contains xs x × (f x ≡ Some y)
-of_filter_map f [] y h = absurd (none_in y h)
-of_filter_map f (x ∷ xs) y h = of_cons f x xs y (f x) refl (of_filter_map f xs y) h
 
 -- by the kind of the body
 kind_asked : (o : Option Value) (body : Body) → IsAsked o body → kind_of body ≡ 6 → (u : Value) × (o ≡ Some u) × (body ≡ Submit u)
@@ -341,11 +278,7 @@ module _ (laws : Laws) (me : Me) (packets : List Packet) (o : Option Value) (ses
         fits = fits made.0 made.1;
         spelled = bytes ∙ ap (λ b. spelling group (record { sender = me.node; body = b })) made.2;
       } in
-      let same = submitted (ap (λ (x : Msg). x.body) (laws.one_message.ensures.one group d.bytes _ told session mine theirs)) in
-      made.1 ∙ ap (λ u. Some u) same
-    where
-      submitted : {u w : Value} → Submit u ≡ Submit w → u ≡ w
-      submitted e = cc
+      cc (made.1, ap (λ (x : Msg). x.body) (laws.one_message.ensures.one group d.bytes _ told session mine theirs))
 
   -- what is submitted by the call
   pub submit_found : (v : Value) → IsSaid (messages_in me.group (datagrams_of me packets)) (Submit v) → o ≡ Some v

@@ -11,7 +11,7 @@ use Rattle.group_node.specs.Output.{Progress, IsReplay}
 use Rattle.group_world.specs.Group.{member_at, with_member, World, world_state, IsUp, me_of}
 use Rattle.group_world.proofs.CallLeaves.{world_after_call, world_after_fall}
 use Rattle.group_world.specs.Member.{Member, at_progress, member_after_release, Running, member_after_call}
-use Rattle.group_world.specs.Sound.{IsSound, IsShown, IsMemberSound, IsSpelling, IsRunningSound}
+use Rattle.group_world.specs.Sound.{IsSound, IsShown, IsMemberSound, IsSpelling, IsRunningSound, IsLearnedChosen}
 use Rattle.group_world.proofs.WorldAsGroup.{SoundAt, changed_elsewhere, changed_here, each_changed, running, is_node, packets_read, sent_called}
 use Rattle.std.proofs.lemmas.Option.{slice_get_within, IfSome_then}
 use Rattle.paxos_learner.specs.Input.{front_values}
@@ -61,22 +61,15 @@ module _ (laws : Laws) (p : Parts) (me : Me) (sent : Sent) (typed keys known : L
   -- a node that is up
   running_then : (kept : Record) (console : List ℕ) (q : Running) → IsRunningSound p me sent typed kept console q
       → IsRunningSound p me (sent ++ messages_of j bodies) (typed ++ keys) kept console q
-  running_then kept console q h = record {
-    me_is = h.me_is;
-    kept_is = h.kept_is;
-    ranges = h.ranges;
-    backs =
-        laws.others_keep_it_backed.ensures.types _ typed keys q.known
-        (sent_then (λ all. Backs all typed q.known) me.group.size known learned j r
-        (λ all body. laws.others_keep_it_backed.ensures.sends all typed known q.known me.group.size j learned r body (rw h.me_is ne))
-        bodies sent may h.backs);
-    learned = record {
-      chosen = λ s v e. laws.sent_only_grows.ensures.chosen me.group.size s sent _ v (h.learned.chosen s v e);
-    };
-    program = h.program;
-    replay = h.replay;
-    shown = h.shown;
-  }
+  running_then kept console q h =
+      let backs =
+      laws.others_keep_it_backed.ensures.types _ typed keys q.known
+      (sent_then (λ all. Backs all typed q.known) me.group.size known learned j r
+      (λ all body. laws.others_keep_it_backed.ensures.sends all typed known q.known me.group.size j learned r body (rw h.me_is ne))
+      bodies sent may h.backs) in
+      let learned : IsLearnedChosen me.group.size (sent ++ messages_of j bodies) q.known.learner.learned =
+      record { chosen = λ s v e. laws.sent_only_grows.ensures.chosen me.group.size s sent _ v (h.learned.chosen s v e) } in
+      assumption
 
   -- a node, after a call of another
   member_then : (m : Member) → IsMemberSound p me sent typed m → IsMemberSound p me (sent ++ messages_of j bodies) (typed ++ keys) m
@@ -125,25 +118,13 @@ module _ (laws : Laws) {w : World} (h : IsSound w) (i : ℕ) {m : Member} (there
 
     module _ (may : MayMake w i m made progress keys) where
       own_sound : IsMemberSound w.program (me_of w i) more_sent more_typed new
-      own_sound = record {
-        ranges = may.ranges.kept;
-        backed = may.lawful.backs.kept;
-        shown = shown_still laws _ (h.members i m there).shown;
-        running = record {
-          me_is = refl;
-          kept_is = refl;
-          ranges = may.ranges;
-          backs = may.lawful.backs;
-          learned = record {
+      own_sound =
+          let shown = shown_still laws (messages_handed_out i made.sends) (h.members i m there).shown in
+          let learned : IsLearnedChosen w.group.size more_sent made.node.learner.learned = record {
             chosen = λ s v e. laws.sent_only_grows.ensures.chosen w.group.size s _ _ v
-                (laws.lawful_calls_go_on.ensures.learned _ more_typed m.kept may.before made h.told
-                may.ranges may.lawful s v e);
-          };
-          program = may.program;
-          replay = may.replay;
-          shown = may.shown;
-        };
-      }
+                (laws.lawful_calls_go_on.ensures.learned _ more_typed m.kept may.before made h.told may.ranges may.lawful s v e);
+          } in
+          assumption
 
       member_sound : (j : ℕ) (x : Member) → member_at after_it.members j ≡ Some x
           → IsMemberSound w.program (me_of w j) more_sent more_typed x
@@ -193,19 +174,14 @@ module _ (laws : Laws) {w : World} (h : IsSound w) (i : ℕ) {m : Member} (there
   changed_sound : (new : Member) (failed : List Change)
       → ((change : Change) → Contains failed change → MaySave (world_state w).sent m.kept change)
       → Stored m.kept failed new.kept → SoundAt w i new → IsSound (with_member w i new)
-  changed_sound new failed may stored own = record {
-    size = h.size;
-    session = h.session;
-    places = length-set w.members (i - 1) new ∙ h.places;
-    spelled = h.spelled;
-    grew =
-        laws.restarts.ensures w.group.size i (world_state w).sent (λ j. ((world_state w).seats j).kept)
-        (λ j. ((world_state (with_member w i new)).seats j).kept) failed h.grew (rw there may)
-        (rw (there, changed_here w.members i m new there) stored) (λ j ne. rw (changed_elsewhere w.members i j m new there ne) refl);
-    told = h.told;
-    submitted = h.submitted;
-    members = each_changed w.members i m new there (SoundAt w) own (λ j x ne e. h.members j x e);
-  }
+  changed_sound new failed may stored own =
+      let places = length-set w.members (i - 1) new ∙ h.places in
+      let grew =
+      laws.restarts.ensures w.group.size i (world_state w).sent (λ j. ((world_state w).seats j).kept)
+      (λ j. ((world_state (with_member w i new)).seats j).kept) failed h.grew (rw there may)
+      (rw (there, changed_here w.members i m new there) stored) (λ j ne. rw (changed_elsewhere w.members i j m new there ne) refl) in
+      let members = each_changed w.members i m new there (SoundAt w) own (λ j x ne e. h.members j x e) in
+      assumption
 
   -- the same if its record is the same
   kept_sound : (new : Member) → new.kept ≡ m.kept → SoundAt w i new → IsSound (with_member w i new)
@@ -238,9 +214,6 @@ module _ (laws : Laws) {w : World} (h : IsSound w) (i : ℕ) {m : Member} (there
 
 -- ---- a run and a release
 
-play : Laws → PlayLaws
-play laws = assumption
-
 module _ (laws : Laws) {w : World} (h : IsSound w) {i : ℕ} {m : Member} {q : Running} (up : IsUp w i m q) where
   -- the machine's progress changes, and perhaps the console
   played_sound : (progress : Progress) (console : List ℕ) → progress.program ≡ q.progress.program → IsReplay (input q.known) progress
@@ -249,8 +222,7 @@ module _ (laws : Laws) {w : World} (h : IsSound w) {i : ℕ} {m : Member} {q : R
   played_sound progress console program replay few shown =
       let sound = running h up in
       let own = h.members i m up.there in
-      let new : Member = record { kept = m.kept; console = console; node = Some (record q { progress = progress }) } in
-      let same = program ∙ sound.program in kept_sound laws h i up.there new refl assumption
+      let same = program ∙ sound.program in kept_sound laws h i up.there _ refl assumption
 
   pub run_sound : (progress : Progress) → progress.program ≡ q.progress.program
       → progress.released ≡ q.progress.released → IsReplay (input q.known) progress
@@ -263,13 +235,14 @@ module _ (laws : Laws) {w : World} (h : IsSound w) {i : ℕ} {m : Member} {q : R
   released_sound None e = kept_sound laws h i up.there m refl (h.members i m up.there)
   released_sound (Some byte) e =
       let sound = running h up in
-      let offer = offer_fits (play laws) h up byte e in
+      let play : PlayLaws = assumption in
+      let offer = offer_fits play h up byte e in
       let shown : IsShown w.program w.group.size (world_state w).sent (offered m.console q.progress.released byte) =
       elim (same_or_prefix offer) [
         | inl same ↦ rw same (h.members i m up.there).shown
         | inr begins ↦ record {
           values = front_values q.known.learner.learned;
-          chosen = front_chosen (play laws).fronts sound.learned;
+          chosen = front_chosen play.fronts sound.learned;
           output = (q.progress.steps, rw sound.program at begins);
         }
       ] in

@@ -1,12 +1,12 @@
 -- Each deed keeps a world sound, and is that deed in its group. The world before all events is sound.
-use Rattle.std.proofs.Common.{Contains, length, ◌≡◌, ◌∙◌, ℕ, All, ◌<◌, ◌++◌, List, [], ◌∷◌, flat_map, slice_get, Some, refl, sym, ap, subst, append-nil, arith, ◌≢◌, Bool, true, false, if◌then◌else◌, Option, None, inl, inr, ◌+◌, ◌-◌, ◌≤◌}
+use Rattle.std.proofs.Common.{Contains, length, ◌≡◌, ◌∙◌, ℕ, All, ◌<◌, ◌++◌, List, [], flat_map, slice_get, Some, refl, sym, ap, subst, append-nil, arith, ◌≢◌, Bool, if◌then◌else◌, Option, None, ◌+◌, ◌-◌, ◌≤◌}
 use Rattle.group_protocol.specs.ProposerRows.{last_round, on_campaign}
 use Rattle.group_protocol.specs.Known.{front, next_serial, Response, on_typed, new_key, on_start}
-use Rattle.group_protocol.specs.WaitingKeys.{waiting_keys}
 use Rattle.group_world.proofs.CallCases.{campaign_cases, press_cases, start_cases}
 use Rattle.group_world.proofs.AskEnds.{tick_rests}
-use Rattle.std.proofs.lemmas.List.Elements.{All-cons, All-contains, All-nil, All-head, All-tail}
-use Rattle.std.specs.List.{cons_option}
+use Rattle.std.proofs.lemmas.Bool.Decides.{nat_tests}
+use Rattle.group_world.proofs.OrderLists.{all_images}
+use Rattle.std.proofs.lemmas.List.Elements.{All-contains, All-nil}
 use Rattle.paxos_msg.specs.declared.message.Group.{Group}
 use Rattle.paxos_msg.specs.declared.value.Value.{Value}
 use Rattle.paxos_msg.specs.Batches.{Msg, Record, Change, Body}
@@ -18,8 +18,8 @@ use Rattle.group_protocol.specs.Tick.{on_tick}
 use Rattle.group_node.specs.Output.{no_progress, Progress, IsReplay, RunsOn}
 use Rattle.group_protocol.specs.Packets.{Datagram}
 use Rattle.group_protocol.specs.Ranges.{IsFit, IsHeardFit, IsMember}
-use Rattle.group_protocol.specs.Steps.{IsLawful, IsLawfulCall}
-use Rattle.group_world.specs.Group.{IsDown, IsUp, me_of, messages_in, World, world_state, seat_of_member, up_of, with_member, member_at, new_world}
+use Rattle.group_protocol.specs.Steps.{IsLawfulCall}
+use Rattle.group_world.specs.Group.{IsDown, IsUp, me_of, message_of, messages_in, World, world_state, seat_of_member, up_of, with_member, member_at, new_world}
 use Rattle.group_world.specs.Member.{Member, Running, NodeCall, Makes, Refuses, call_of_campaign, call_of_press, call_of_start, failing, save_outcome, at_progress, member_after_release}
 use Rattle.group_world.specs.Sound.{IsSound, IsSpelling}
 use Rattle.std.specs.FinMap.{empty}
@@ -41,8 +41,7 @@ use Rattle.group_world.specs.Deeds.{DoesDeed, EndsCall, Left, quietly}
 use Rattle.group_world.proofs.CallLeaves.{Leaves, LeavesBy, idle_leads, leaves_so, quiet_leads, world_after_call, world_after_fall}
 use Rattle.group_world.specs.Event.{DoesAt, HearsOf, IsStepAt, world_after}
 use Rattle.pcode_file.specs.Parts.{Parts}
-use Rattle.paxos_msg.specs.declared.record.Change.TheVariants as change
-use Rattle.paxos_msg.specs.Records.{changed, empty_record}
+use Rattle.paxos_msg.specs.Records.{empty_record}
 use Rattle.group_node.specs.declared.player.Ran.{Ran}
 use Rattle.group_world.proofs.SoundWorldsAgree.{next_of, next_written, written}
 use Rattle.std.proofs.lemmas.List.{length-replicate}
@@ -63,16 +62,17 @@ StepsCall w e i m progress (Makes made keys) =
 -- a save that fails is a save of the call
 fails_some : (saves : Option Change) (plan : Option Bool) (is_kept : Bool) → failing saves plan ≡ Some is_kept
     → (c : Change) × (saves ≡ Some c)
-fails_some None plan is_kept e = absurd cc
-fails_some (Some c) plan is_kept e = (c, refl)
+fails_some saves plan is_kept e = grind (arith, nat_tests)
+
+-- a save that fails leaves the changed record or the old one
+one_of : (is_kept : Bool) {old new kept : Record} → old ≡ kept → IsOneOf (if is_kept then new else kept) old new
+one_of is_kept e = grind (arith, nat_tests)
 
 -- each message that datagrams spell fits
 all_fit : (group : Group) (datagrams : List Datagram) → All (IsSpelling group) datagrams → All (Fits group) (messages_in group datagrams)
-all_fit group [] all = All-nil (Fits group)
-all_fit group (datagram ∷ more) all =
-    let first = All-head (IsSpelling group) datagram more all in
-    subst (λ o. All (Fits group) (cons_option o (messages_in group more))) (sym first.read)
-    (All-cons (Fits group) first.message _ first.spells.fits (all_fit group more (All-tail (IsSpelling group) datagram more all)))
+all_fit group datagrams all =
+    all_images (Fits group) (message_of group) datagrams
+    (λ d among. let s = All-contains (IsSpelling group) datagrams d all among in rw s.read s.spells.fits)
 
 module _ (laws : Laws) {w : World} (h : IsSound w) {i : ℕ} {m : Member} {q : Running} (up : IsUp w i m q) where
   abbrev s : WorldState
@@ -91,9 +91,7 @@ module _ (laws : Laws) {w : World} (h : IsSound w) {i : ℕ} {m : Member} {q : R
       record {
         me_is = fits.same ∙ sound.me_is;
         before = q.known.learner.learned;
-        lawful =
-            subst (λ r. IsLawful (world_state w).sent ((world_state w).typed ++ flat_map keys_of keys) r
-            q.known.learner.learned made) sound.kept_is lawful;
+        lawful = rw sound.kept_is at lawful;
         ranges = fits.ranges;
         fits = rw sound.me_is at fits.sends;
         program = sound.program;
@@ -130,8 +128,7 @@ module _ (laws : Laws) {w : World} (h : IsSound w) {i : ℕ} {m : Member} {q : R
   -- a message that was sent has a spelling
   heard_fits : (message : Msg) → Contains (messages_in w.group w.sent) message → IsHeardFit q.known.me message.sender message.body
   heard_fits message heard =
-      subst (λ me. IsHeardFit me message.sender message.body) (sym sound.me_is)
-      (All-contains (Fits w.group) _ message (all_fit w.group w.sent h.spelled) heard)
+      rw sound.me_is (All-contains (Fits w.group) _ message (all_fit w.group w.sent h.spelled) heard)
 
   message_allowed : (message : Msg) → Contains (messages_in w.group w.sent) message
       → IsAllowed [] (on_message q.known message.sender message.body)
@@ -179,12 +176,8 @@ module _ (laws : Laws) {w : World} (h : IsSound w) {i : ℕ} {m : Member} {q : R
             let left = if is_kept then made.node.kept else m.kept in
             subst (WorldStep s i e) (sym (member_state w i m (record { kept = left; console = m.console; node = None }) up.there))
             (at_number (λ j. WorldStep s j e (with_seat s j (record { kept = left; console = m.console; up = None })))
-            (falls saves left (one_of is_kept))),
+            (falls saves left (one_of is_kept sound.kept_is))),
       )
-    where
-      one_of : (is_kept : Bool) → IsOneOf (if is_kept then made.node.kept else m.kept) q.known.kept made.node.kept
-      one_of true = inr refl
-      one_of false = inl (sym sound.kept_is)
 
   -- each of these calls
   press_steps : (byte : ℕ) → byte < 256 → StepsCall w (deed.Press byte) i m q.progress (call_of_press q.known byte)
@@ -242,15 +235,9 @@ module _ (laws : Laws) {w : World} (h : IsSound w) {i : ℕ} {m : Member} {q : R
   release_of o e = record {
     was = up_of q;
     from = rw (up.there, up.up) refl;
-    left = here (member_after_release m q o) ∙ after o e;
+    left = here (member_after_release m q o) ∙ rw (up.there, e) (grind (arith, nat_tests));
     rest = only_here (member_after_release m q o);
   }
-    where
-      after : (o : Option ℕ) → slice_get (written q) q.progress.released ≡ o
-          → seat_of_member (Some (member_after_release m q o))
-          ≡ after_release (s.seats i) (up_of q) (slice_get (up_of q).configuration.output (up_of q).released)
-      after None e = rw (up.there, e) refl
-      after (Some byte) e = rw (up.there, e) refl
 
   -- a run
   run_steps : (most : ℕ) (progress : Progress) (ran : Ran)
@@ -267,19 +254,10 @@ module _ (laws : Laws) {w : World} (h : IsSound w) {i : ℕ} {m : Member} {q : R
       let step = at_number (λ j. WorldStep s j (deed.Run most) (with_seat s j (group.seat_of q.known
       (after_steps w.program x (q.progress.steps + more)) q.progress.released m.console)))
       (laws.output_is_a_deed.ensures.run s q.known most _ more _ m.console seated few leads) in
+      let released = ap (λ (y : Progress). y.released) runs.rest in
       let seat : seat_of_member (Some (at_progress m q progress))
       ≡ group.seat_of q.known (after_steps w.program x (q.progress.steps + more)) q.progress.released m.console =
-      λ t. record {
-        kept = sym sound.kept_is t;
-        console = m.console;
-        up =
-            Some (record {
-              learned = q.known.learner.learned;
-              configuration = after_steps (program t) x (count t);
-              released = (runs.rest t).released;
-              waiting = waiting_keys q.known;
-            });
-      } in
+      rw (program, ← count, released, sound.kept_is) refl in
       subst (WorldStep s i (deed.Run most)) (sym (member_state w i m (at_progress m q progress) up.there ∙ ap (with_seat s i) seat)) step
 
 -- a start
@@ -288,11 +266,6 @@ module _ (laws : Laws) {w : World} (h : IsSound w) (i : ℕ) {m : Member} (down 
   first_configuration : (p : Parts) (x : List ℕ) → after_steps p x 0 ≡ begin p
   unfolding after_steps
   first_configuration p x = refl
-
-  start_one : (is_kept : Bool)
-      → IsOneOf (if is_kept then (on_start (me_of w i) m.kept).node.kept else m.kept) m.kept (changed m.kept change.Start)
-  start_one true = inr refl
-  start_one false = inl refl
 
   -- it may be made
   start_may : m.kept.starts ≢ 4294967295 → MayMake w i m (on_start (me_of w i) m.kept) (no_progress w.program) []
@@ -329,7 +302,7 @@ module _ (laws : Laws) {w : World} (h : IsSound w) (i : ℕ) {m : Member} (down 
             let left = if is_kept then made.node.kept else m.kept in
             subst (WorldStep (world_state w) i (deed.Start m.kept))
             (sym (member_state w i m _ down.there))
-            (laws.calls_are_deeds.ensures.falls_start _ (me_of w i) m.kept left m.console seated (start_one is_kept)),
+            (laws.calls_are_deeds.ensures.falls_start _ (me_of w i) m.kept left m.console seated (one_of is_kept refl)),
       ))
 
 -- ---- the deed
@@ -360,30 +333,26 @@ module _ (laws : Laws) {w v : World} (h : IsSound w) (i : ℕ) (m : Member) (the
   quiet_answer : {new : Member} → left ≡ quietly new → d ≡ Applied
   quiet_answer is = answers ∙ ap (λ (x : Left). x.answer) is
 
+  -- a call of the node
+  call_by : (e : Deed) (progress : Progress) (call : NodeCall) → StepsCall w e i m progress call
+      → EndsCall (me_of w i) m progress plan call left → GoesOn w i e d v
+  call_by e progress call steps ends =
+      call_goes_on laws h e i there progress plan call steps (leaves_so w i m there progress plan call ends answers leads)
+
   -- each deed, by what it is
   deed_goes_on : (e : Deed) → HearsOf w.group w.sent e → DoesDeed w.program (me_of w i) m plan e left → GoesOn w i e d v
   deed_goes_on deed.Idle heard is = rw (quiet_answer is, leads ∙ idle_leads w i m there is) (h, refl)
   deed_goes_on (deed.Start r) heard (down, over, ends) =
-      let steps = start_steps laws h i (record { there = there; down = down }) in
-      subst (λ r. GoesOn w i (deed.Start r) d v) (sym over)
-      (call_goes_on laws h (deed.Start m.kept) i there _ plan _ steps
-      (leaves_so w i m there _ plan _
-      (subst (λ r. EndsCall (me_of w i) m (no_progress w.program) plan (call_of_start (me_of w i) r) left) over ends)
-      answers leads))
+      rw over (call_by (deed.Start m.kept) _ _ (start_steps laws h i (record { there = there; down = down })) (rw over at ends))
   deed_goes_on (deed.Hear message) heard (q, up, ends) =
-      let call : NodeCall = Makes (on_message q.known message.sender message.body) [] in
-      call_goes_on laws h (deed.Hear message) i there q.progress plan call
-      (hear_steps laws h (record { there = there; up = up }) message heard) (leaves_so w i m there q.progress plan call ends answers leads)
+      call_by (deed.Hear message) q.progress (Makes (on_message q.known message.sender message.body) [])
+      (hear_steps laws h (record { there = there; up = up }) message heard) ends
   deed_goes_on (deed.Press byte) heard (q, up, low, ends) =
-      call_goes_on laws h (deed.Press byte) i there q.progress plan _
-      (press_steps laws h (record { there = there; up = up }) byte low) (leaves_so w i m there _ plan _ ends answers leads)
+      call_by (deed.Press byte) q.progress _ (press_steps laws h (record { there = there; up = up }) byte low) ends
   deed_goes_on deed.Campaign heard (q, up, ends) =
-      call_goes_on laws h deed.Campaign i there q.progress plan _
-      (campaign_steps laws h (record { there = there; up = up })) (leaves_so w i m there _ plan _ ends answers leads)
+      call_by deed.Campaign q.progress _ (campaign_steps laws h (record { there = there; up = up })) ends
   deed_goes_on deed.Tick heard (q, up, ends) =
-      let call : NodeCall = Makes (on_tick q.known) [] in
-      call_goes_on laws h deed.Tick i there q.progress plan call
-      (tick_steps laws h (record { there = there; up = up })) (leaves_so w i m there q.progress plan call ends answers leads)
+      call_by deed.Tick q.progress (Makes (on_tick q.known) []) (tick_steps laws h (record { there = there; up = up })) ends
   deed_goes_on (deed.Run most) heard (q, up, runs, is) =
       let up_so : IsUp w i m q = record { there = there; up = up } in
       let rest = runs.runs.rest in
@@ -427,8 +396,7 @@ module _ (laws : Laws) (p : Parts) (group : Group) where
 
   no_record : (o : Option Member) → ((m : Member) → o ≡ Some m → stopped empty_record ≡ m)
       → (seat_of_member o).kept ≡ empty_record
-  no_record None h = refl
-  no_record (Some m) h = ap (λ (x : Member). x.kept) (sym (h m refl))
+  no_record o h = grind (arith, nat_tests, h)
 
   pub begun_sound : IsSize group.size → IsGroup group → IsSound (new_world p group)
   begun_sound size session = record {
