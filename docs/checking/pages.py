@@ -87,6 +87,27 @@ def check_version():
         fault(f"{PROGRAM}: says the version {', '.join(said)}, and the newest of CHANGELOG.md is {newest}")
 
 
+# Where the names are that pages may have, and what stands for any name.
+SOURCES = ("crates", "tools", "tests", "examples", "bench", "docs/checking")
+ANY_NAME = re.compile(r"(?:^|_)xyz(?:_|$)")
+
+
+def check_names_shown(pages):
+    """A name of several words that a page has between backticks is in some source, or is the name of a file or a crate."""
+    shown = {path: {it for it in re.findall(r"`([a-z]\w*_\w*)`", text_of(path)) if not ANY_NAME.search(it)} for path in pages}
+    missing = set().union(*shown.values()) - set(tree.all_crates())
+    for folder in SOURCES:
+        for path in tree.files_below(folder, ""):
+            missing.discard(os.path.basename(path).split(".")[0])
+            if missing and not path.endswith((".md", ".code")):
+                with open(f"{tree.TOP}/{path}", encoding="utf-8", errors="replace") as file:
+                    text = file.read()
+                missing -= {it for it in missing if it in text and re.search(rf"(?<!\w){it}(?!\w)", text)}
+    for path, names in shown.items():
+        for name in sorted(names & missing):
+            fault(f"{path}: names {name}, which is nowhere else")
+
+
 # The module that has names of another on purpose.
 BATCHES = "crates/paxos_msg/specs/Batches.antt"
 
