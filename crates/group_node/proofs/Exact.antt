@@ -1,11 +1,10 @@
 -- The machine with its ring and its counts stays exact, from one step to the next, and what it says
 -- of the program's output.
-use Rattle.std.proofs.Common.{◌≡◌, ℕ, zero, suc, ◌+◌, ◌<◌, ◌≤◌, List, [], ◌∷◌, ◌++◌, length, take, drop, slice_get, Some, None, refl, sym, ◌∙◌, ap, subst, add-one, append-nil, append_assoc, length-append, arith, Option}
+use Rattle.std.proofs.Common.{◌≡◌, ℕ, zero, suc, ◌+◌, ◌<◌, ◌≤◌, List, [], ◌∷◌, ◌++◌, length, take, drop, slice_get, Some, None, refl, sym, ◌∙◌, ap, append-nil, append_assoc, length-append, arith, Option}
 use Rattle.std.proofs.lemmas.List.{drop-drop, length-drop, length-take, take-append-drop, take_all, drop-append-le}
-use Rattle.std.proofs.lemmas.Option.{slice_get_within}
 use Rattle.std.proofs.lemmas.Bool.Decides.{nat_tests}
 use Rattle.base.proofs.Lists.{get_none}
-use Rattle.circular_buffer.specs.Buffer.{buffer, Buffer}
+use Rattle.circular_buffer.specs.Buffer.{buffer}
 use Rattle.pcode_file.specs.Parts.{Parts}
 use Rattle.pcode_machine.specs.declared.turn.End.{End}
 use Rattle.pcode_machine.specs.Configuration.{State, Configuration, configuration_of, start}
@@ -34,7 +33,7 @@ makes-wrote w = grind (arith, nat_tests)
 -- ---- one step more
 
 -- a step that takes what the input has next
-pub exact_more : {x : List ℕ} {old new : Player} {took wrote : List ℕ} → Laws → IsPlayed x old
+exact_more : {x : List ℕ} {old new : Player} {took wrote : List ℕ} → Laws → IsPlayed x old
     → length old.unreleased.items < 256 → PlaysStep old new took wrote
     → (rest : List ℕ) → (take old.read x ++ took) ++ rest ≡ x → IsPlayed x new
 unfolding LeadsIn
@@ -46,24 +45,19 @@ exact_more {x} {old} {new} {took} {wrote} laws h room m rest split =
     (configuration_of old.machine.state (length (take old.read x)) h.output)
     (configuration_of new.machine.state (length (take old.read x) + length took) (h.output ++ wrote))
     (m.made.steps (take old.read x) h.output)) in
-    let all : length ((take old.read x ++ took) ++ rest) ≡ length x = ap length split in
-    let within : old.read + length took ≤ length x =
-    omega (arith, length-append (take old.read x ++ took) rest, length-append (take old.read x) took) in
-    let waits = ap (λ (b : Buffer ℕ). b.items) m.waits in
-    let capacity = ap (λ (b : Buffer ℕ). b.capacity) m.waits in
     let tail = drop-append-le old.released h.output wrote h.released in
     record {
       output = h.output ++ wrote;
-      made =
-          rw (m.program, m.steps, add-one, m.read)
-          (configuration_of old.machine.state old.read h.output, h.made, goes);
-      read = rw m.read within;
-      waits = rw (waits, m.released, tail, h.waits) refl;
+      made = grind arith;
+      read = rw m.read (
+          omega (arith, ap length split, length-append (take old.read x ++ took) rest, length-append (take old.read x) took)
+          );
+      waits = rw (m.waits, m.released, tail, h.waits) refl;
       released = rw m.released (omega (arith, length-append h.output wrote, h.released));
       few = rw m.steps (omega (arith, length-append h.output wrote, h.few, m.short));
       seldom = rw (m.steps, m.read) (omega (arith, h.seldom, m.one));
-      room = rw waits (omega (arith, length-append old.unreleased.items wrote, m.short));
-      capacity = capacity ∙ h.capacity;
+      room = rw m.waits (omega (arith, length-append old.unreleased.items wrote, m.short));
+      capacity = rw m.waits h.capacity;
     }
 
 -- a step that takes nothing
@@ -88,23 +82,14 @@ exact_fed {x} {old} {new} {b} {wrote} laws h room e m =
 
 -- ---- why no step is made
 
--- the configuration that a replay comes to
-pub replayed : {x : List ℕ} {q : Player} → There → (h : IsPlayed x q)
-    → after_steps q.machine.program x q.steps ≡ configuration_of q.machine.state q.read h.output
-replayed h1 h = grind (arith, nat_tests)
-
--- where there is no next byte, all were read
-all_read : (x : List ℕ) (n : ℕ) → slice_get x n ≡ None → n ≤ length x → (n ≡ length x) × (take n x ≡ x)
-all_read x n e le = let low = get_none x n e in (omega arith, take_all n x low)
-
 -- the machine waits, and all of the input is read
 pub halts_waiting : {x : List ℕ} {q : Player} {p : Parts} → Laws → IsPlayed x q → q.machine.program ≡ p
     → WaitsOn p q.machine.state → slice_get x q.read ≡ None
     → transition q.machine.program x (after_steps q.machine.program x q.steps) ≡ Waiting
 halts_waiting {x} {q} {p} laws h same w e =
-    let r = all_read x q.read e h.read in
-    let Q : ℕ → Type 0 = λ k. transition p x (configuration_of q.machine.state k h.output) ≡ Waiting in
-    rw (replayed laws.there h, same) (subst Q (sym r.0) (w.waits x h.output))
+    let low = get_none x q.read e in
+    let all : q.read ≡ length x = omega (arith, h.read) in
+    grind (arith, all, take_all q.read x low)
 
 -- the program has ended
 pub halts_ended : {x : List ℕ} {q : Player} {p : Parts} {e : End} → Laws → IsPlayed x q → q.machine.program ≡ p → IsLast p q.machine.state e
@@ -117,13 +102,6 @@ halts_ended h1 h2 h3 h4 = grind (arith, nat_tests)
 abbrev QuietLaw : Type 0
 QuietLaw = (p : Parts) (x : List ℕ) (n m r : ℕ) (o : List ℕ) (s t : State) → LeadsIn p x n (configuration_of s r o)
     → AreQuiet p m s t → LeadsIn p x (n + m) (configuration_of t r o)
-
--- steps that read and write nothing
-pub advances : {x : List ℕ} {old new : Player} (k : ℕ) → QuietLaw → IsPlayed x old
-    → AreQuiet old.machine.program k old.machine.state new.machine.state
-    → new.machine.program ≡ old.machine.program → new.unreleased ≡ old.unreleased → new.steps ≡ old.steps + k
-    → new.read ≡ old.read → new.released ≡ old.released → Advances x k old new
-advances {x} {old} {new} k quiet h a program waits steps read released = grind (arith, nat_tests)
 
 -- the steps before the one that wrote a byte
 abbrev pub advanced : Player → ℕ → State → Player
@@ -146,24 +124,12 @@ exact_start x q state steps read released waits = grind (arith, nat_tests)
 pub exact_released : {x : List ℕ} {q : Player} {b : ℕ} → IsPlayed x q → slice_get q.unreleased.items 0 ≡ Some b
     → IsPlayed x (record q { unreleased = buffer (drop 1 q.unreleased.items) q.unreleased.capacity; released = q.released + 1 })
 exact_released {x} {q} {b} h e =
-    let e' : slice_get (drop q.released h.output) 0 ≡ Some b = rw h.waits at e in
-    let more : 0 < length (drop q.released h.output) = slice_get_within (drop q.released h.output) 0 b e' in
-    record {
-      output = h.output;
-      made = h.made;
-      read = h.read;
-      waits = rw h.waits (drop-drop 1 q.released h.output);
-      released = omega (arith, length-drop q.released h.output);
-      few = h.few;
-      seldom = h.seldom;
-      room = omega (arith, length-drop 1 q.unreleased.items, h.room);
-      capacity = h.capacity;
-    }
+    grind (arith, drop-drop 1 q.released h.output, length-drop q.released h.output)
 
 -- ---- the output
 
 -- what the machine wrote is the output after its steps
-pub output_is : {x : List ℕ} {q : Player} → There → (h : IsPlayed x q) → out q.machine.program x q.steps ≡ h.output
+output_is : {x : List ℕ} {q : Player} → There → (h : IsPlayed x q) → out q.machine.program x q.steps ≡ h.output
 unfolding out
 output_is there h = grind (arith, nat_tests)
 
@@ -173,11 +139,7 @@ waits_unreleased {x} {q} there h = ap (drop q.released) (output_is there h) ∙ 
 
 -- the machine is where a replay from the start is
 pub exact_replay : {x : List ℕ} {q : Player} → There → IsPlayed x q → IsReplay x (progress_of q)
-exact_replay {x} {q} there h = record {
-  made = subst (λ (c : Configuration). LeadsIn q.machine.program x q.steps c) (sym (replayed there h)) h.made;
-  released = rw (output_is there h) h.released;
-  few = rw (waits_unreleased there h) h.room;
-}
+exact_replay {x} {q} there h = grind (arith, output_is there h)
 
 -- how many bytes wait
 pub exact_count : {x : List ℕ} {q : Player} (n : ℕ) → There → n ≡ length q.unreleased.items → IsPlayed x q

@@ -1,25 +1,16 @@
 -- Steps of a run of node 9.
-use Rattle.std.proofs.lemmas.Option.{same_Some}
-use Rattle.std.proofs.Common.{◌≡◌, ◌≤◌, ℕ, zero, suc, List, sym, ap, subst}
+use Rattle.std.proofs.Common.{◌≡◌, ◌≤◌, ℕ, zero, suc, List, subst, arith}
 use Rattle.pcode_machine.specs.Configuration.{Configuration}
 use Rattle.pcode_machine.specs.Step.{Step}
 use Rattle.paxos_learner.specs.Input.{learned_input}
 use Rattle.group_node.specs.Deeds as deed
-use Rattle.group_node.specs.World.{MakesSteps, Seat, Up, WorldStep}
+use Rattle.group_node.specs.World.{MakesSteps, Up, WorldStep}
 use Rattle.group_node.specs.WrongSteps.{nine_up, no_code}
 
 -- the steps of a run on the learned input
 pub run_moves : (up now : Up) (steps : ℕ) → WorldStep (nine_up up) 9 (deed.Run steps) (nine_up now)
     → (made : ℕ) × (made ≤ steps) × MakesSteps no_code (learned_input up.learned) made up.configuration now.configuration
-run_moves up now steps h =
-    let same : h.was ≡ up = same_Some h.was up (sym h.from) in
-    let left = same_Some (record h.was { configuration = h.configuration }) now (sym (ap (λ (s : Seat). s.up) h.left)) in (
-      h.made,
-      h.few,
-      subst (λ (c : Configuration). MakesSteps no_code (learned_input up.learned) h.made up.configuration c)
-          (ap (λ (u : Up). u.configuration) left)
-          (subst (λ (u : Up). MakesSteps no_code (learned_input u.learned) h.made u.configuration h.configuration) same h.moves),
-    )
+run_moves up now steps h = grind arith
 
 -- where no step is, steps lead nowhere
 pub stuck : (x : List ℕ) (c : Configuration) → ((d : Configuration) → ¬ Step no_code x c d) → (n : ℕ) (d : Configuration)

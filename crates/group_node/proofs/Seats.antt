@@ -1,5 +1,5 @@
 -- A group in which one node's seat has changed.
-use Rattle.std.proofs.Common.{◌≡◌, ◌≢◌, ℕ, [], refl, sym, append-nil, arith}
+use Rattle.std.proofs.Common.{◌≡◌, ℕ, [], append-nil, arith}
 use Rattle.std.proofs.lemmas.Bool.Decides.{nat_tests}
 use Rattle.group_node.specs.World.{ChangesOnly, Seat, with_seat, WorldState}
 
@@ -7,16 +7,6 @@ use Rattle.group_node.specs.World.{ChangesOnly, Seat, with_seat, WorldState}
 pub seat_here : (w : WorldState) (i : ℕ) (seat : Seat) → (with_seat w i seat).seats i ≡ seat
 seat_here w i seat = grind (arith, nat_tests)
 
--- the others are as they were
-pub seat_elsewhere : (w : WorldState) (i : ℕ) (seat : Seat) (j : ℕ) → j ≢ i → (with_seat w i seat).seats j ≡ w.seats j
-seat_elsewhere w i seat j ne = grind (arith, nat_tests)
-
 -- nothing was sent or typed
 pub seat_alone : (w : WorldState) (i : ℕ) (seat : Seat) → ChangesOnly w (with_seat w i seat) i [] []
-seat_alone w i seat = record {
-  program = refl;
-  size = refl;
-  others = seat_elsewhere w i seat;
-  sent = sym (append-nil w.sent);
-  typed = sym (append-nil w.typed);
-}
+seat_alone w i seat = grind (arith, append-nil w.sent, append-nil w.typed)

@@ -14,7 +14,7 @@ use Rattle.group_protocol.specs.Tick.{ticked, accept_again, accepts_again, asks,
 use Rattle.group_protocol.specs.WaitingKeys.{batch_of}
 use Rattle.std.specs.Ordering.{nat_cmp}
 use Rattle.std.specs.FinMap.{FinMap, get}
-use Rattle.std.specs.List.{cons_option, filter_map, range_with_len}
+use Rattle.std.specs.List.{filter_map, range_with_len}
 use Rattle.std.proofs.lemmas.List.Elements.{All-nil, All-take}
 use Rattle.base.proofs.Branches.{either}
 use Rattle.paxos_msg.specs.declared.message.Body.TheVariants.{Accept, Ask, Prepare, Submit, Tell}
@@ -44,14 +44,10 @@ module _ (P : Response → Type 0) where
 
 -- ---- each packet
 
--- what holds of one that may be there, and of the rest, holds of all
-cons_all : {X : Type 0} (P : X → Type 0) (o : Option X) (xs : List X) → IfSome o P → All P xs → All P (cons_option o xs)
-cons_all P o xs h all = grind (arith, nat_tests)
-
 -- what holds of each that is made holds of all
 filter_map_all : {X Y : Type 0} (P : Y → Type 0) (f : X → Option Y) (xs : List X) → ((x : X) → IfSome (f x) P) → All P (filter_map f xs)
 filter_map_all P f [] h = All-nil P
-filter_map_all P f (x ∷ xs) h = cons_all P (f x) (filter_map f xs) (h x) (filter_map_all P f xs h)
+filter_map_all P f (x ∷ xs) h = grind (arith, nat_tests, h x, filter_map_all P f xs h)
 
 module _ (P : Packet → Type 0) where
   -- all Prepares of a tick

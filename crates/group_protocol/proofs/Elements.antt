@@ -1,7 +1,8 @@
 -- Elements of lists that are written out, maps of nothing and of one value, and sets of nodes.
 use Rattle.std.proofs.lemmas.List.Elements.{All-contains, All-from_recursion, Contains-append_cases, Contains-append_right}
+use Rattle.std.proofs.lemmas.List.{nil_from_length}
 use Rattle.std.specs.List.{AllByRecursion as EachOf, Contains}
-use Rattle.std.proofs.Common.{◌≡◌, ◌⊎◌, ◌∙◌, ◌+◌, ◌≤◌, IsTrue, Bool, ℕ, zero, suc, List, [], ◌∷◌, length, inl, inr, refl, sym, arith}
+use Rattle.std.proofs.Common.{◌≡◌, ◌⊎◌, ◌∙◌, ◌+◌, ◌≤◌, IsTrue, Bool, ℕ, zero, suc, List, [], ◌∷◌, inl, inr, refl, sym, arith}
 use Rattle.std.specs.Ordering.{nat_cmp}
 use Rattle.std.specs.FinMap.{empty, entries, entries-insert, insert, len-empty, len-entries}
 use Rattle.std.specs.Cmp.{nat_cmp_total}
@@ -20,8 +21,7 @@ pub rest_in : {X : Type 0} (x : X) (xs : List X) (y : X) → Contains xs y → C
 rest_in x xs y h = Contains-append_right (x ∷ []) xs y h
 
 pub only_in : {X : Type 0} (x y : X) → Contains (x ∷ []) y → x ≡ y
-only_in x y (zero, below, at) = at
-only_in x y (suc k, below, at) = absurd (omega arith)
+only_in x y n = grind (arith, nat_tests)
 
 pub in_cases : {X : Type 0} (x : X) (xs : List X) (y : X) → Contains (x ∷ xs) y → (x ≡ y) ⊎ Contains xs y
 in_cases x xs y h = elim (Contains-append_cases (x ∷ []) xs y h) [ inl e ↦ inl (only_in x y e) | inr later ↦ inr later ]
@@ -33,11 +33,7 @@ each_of P xs x each among = All-contains P xs x (All-from_recursion P xs each) a
 -- ---- maps
 
 pub entries_none : {X : Type 0} → entries (empty {X = X} {R = nat_cmp}) ≡ []
-entries_none {X} = no_entries _ (sym (len-entries (empty {X = X} {R = nat_cmp})) ∙ len-empty nat_cmp X)
-  where
-    no_entries : {Y : Type 0} (xs : List Y) → length xs ≡ 0 → xs ≡ []
-    no_entries [] e = refl
-    no_entries (x ∷ xs) e = absurd (omega arith)
+entries_none {X} = nil_from_length _ (sym (len-entries (empty {X = X} {R = nat_cmp})) ∙ len-empty nat_cmp X)
 
 pub entries_one : {X : Type 0} (k : ℕ) (x : X) → entries (insert (empty {K = ℕ} {R = nat_cmp}) k x) ≡ (k, x) ∷ []
 entries_one k x = entries-insert nat_cmp_total empty k x ∙ rw entries_none refl
@@ -53,5 +49,4 @@ count_grows p q (suc n) all = grind (arith, nat_tests, all (suc n), count_grows 
 pub minority : (size : ℕ) (members among : ℕ → Bool) → count_of among size + count_of among size ≤ size
     → ((i : ℕ) → IsTrue (members i) → IsTrue (among i)) → ¬ IsMajority size members
 minority size members among low within h =
-    let less = count_grows members among size within in
-    omega (arith, h)
+    grind (arith, count_grows members among size within)

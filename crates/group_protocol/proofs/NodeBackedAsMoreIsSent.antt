@@ -16,7 +16,7 @@ use Rattle.paxos_proposer.specs.Proposer.{Proposer}
 use Rattle.paxos_learner.specs.Backed.{IsLearnerBacked, Stays}
 use Rattle.paxos_learner.specs.Learner.{Learner}
 use Rattle.group_protocol.specs.Known.{Known}
-use Rattle.group_protocol.specs.Backs.{Backs, HasPromised, IsLeadingBacked, IsRecordBacked}
+use Rattle.group_protocol.specs.Backs.{Backs, HasPromised, IsRecordBacked}
 
 -- The laws of the crates below: a record, a proposer and a learner that are backed are so as more
 -- is sent.
@@ -34,21 +34,18 @@ pub record IsQuiet (me : ℕ) (r : Record) (sent more : Sent) : Type 0 where
   pub old : (b : Ballot) (s : ℕ) (v : Value) → b.node ≡ me → IsSaid (sent ++ more) (Accept b s v) → IsSaid sent (Accept b s v)
 
 -- what was sent is sent still
-pub sent_still : (sent more : Sent) (i : ℕ) (body : Body) → IsSent sent i body → IsSent (sent ++ more) i body
+sent_still : (sent more : Sent) (i : ℕ) (body : Body) → IsSent sent i body → IsSent (sent ++ more) i body
 sent_still sent more i body h = grind (arith, nat_tests, Contains-append_left)
 
 -- what was said is said still
 pub said_still : (sent more : Sent) (body : Body) → IsSaid sent body → IsSaid (sent ++ more) body
-said_still sent more body h1 = grind (arith, nat_tests, sent_still)
+said_still sent more body h = grind (arith, nat_tests, sent_still)
 
 -- what was said after one message more was said before, or is what it says
 pub said_push : (sent : Sent) (j : ℕ) (body said : Body) → IsSaid (sent ++ record { sender = j; body = body } ∷ []) said
     → IsSaid sent said ⊎ (body ≡ said)
 said_push sent j body said (i, h) =
-    elim (Contains-push_cases sent (record { sender = j; body = body }) (record { sender = i; body = said }) h) [
-      | inl old ↦ inl (i, old)
-      | inr e ↦ inr (ap (λ (m : Msg). m.body) e)
-    ]
+    elim (Contains-push_cases _ _ _ h) [ inl old ↦ inl (i, old) | inr e ↦ inr (ap (λ (m : Msg). m.body) e) ]
 
 module _ (laws : BackingLaws) where
   -- a learner stays backed, whatever is sent
@@ -60,22 +57,8 @@ module _ (laws : BackingLaws) where
       → IsRecordBacked (sent ++ more) me r
   record_later me sent more r quiet h = record {
     votes = laws.votes sent more r h.votes;
-    asked = λ b from mine said. elim (quiet.asked b from mine said) [
-      | inl old ↦ h.asked b from mine old
-      | inr promised ↦ promised
-    ];
+    asked = λ b from mine said. grind (arith, quiet.asked b from mine said, h.asked b from mine);
     own = λ b s v mine said. h.own b s v mine (quiet.old b s v mine said);
-  }
-
-  -- a proposer stays backed
-  leading_later : (me : ℕ) (sent more : Sent) (r : Record) (p : Proposer) → IsQuiet me r sent more
-      → IsLeadingBacked sent me r p → IsLeadingBacked (sent ++ more) me r p
-  leading_later me sent more r p quiet h = record {
-    backed =
-        laws.proposer sent (sent ++ more) me p
-        (record { stays = sent_still sent more; quiet = λ s v said. quiet.old p.ballot s v h.backed.own said })
-        h.backed;
-    promised = h.promised;
   }
 
   -- a node stays backed
@@ -83,7 +66,10 @@ module _ (laws : BackingLaws) where
       → Backs sent typed n → Backs (sent ++ more) typed n
   backs_later sent more typed n quiet h = record {
     kept = record_later n.me.node sent more n.kept quiet h.kept;
-    proposer = IfSome_then n.proposer h.proposer (λ p g. leading_later n.me.node sent more n.kept p quiet g);
+    proposer = IfSome_then n.proposer h.proposer (λ p g.
+        let still : IsQuietUnder p.ballot sent (sent ++ more) =
+        record { stays = sent_still sent more; quiet = λ s v said. quiet.old p.ballot s v g.backed.own said } in
+        record { backed = laws.proposer sent (sent ++ more) n.me.node p still g.backed; promised = g.promised });
     learner = learner_later sent more n.learner h.learner;
     waiting = h.waiting;
   }

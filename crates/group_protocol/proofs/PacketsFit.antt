@@ -1,35 +1,32 @@
 -- Packets of a node in its ranges have a spelling, each by itself, also what its proposer proposes;
 -- and the proposer stays in its ranges.
-use Rattle.std.proofs.Common.{◌≡◌, ℕ, ◌+◌, ◌<◌, ◌≤◌, List, [], ◌∷◌, ap, refl, sym, length, take, Some, subst, arith, zero, suc, Option, None, IfSome}
+use Rattle.std.proofs.Common.{◌≡◌, ℕ, ◌<◌, List, [], ◌∷◌, ap, refl, length, take, Some, arith, zero, suc, Option, None, IfSome}
 use Rattle.std.proofs.lemmas.Bool.{cases_lt}
 use Rattle.std.proofs.lemmas.List.{get_or-take, get_or_past, length-take}
-use Rattle.std.specs.Ordering.{nat_cmp}
-use Rattle.std.specs.FinMap.{FinMap, get}
+use Rattle.std.specs.FinMap.{get}
 use Rattle.std.proofs.lemmas.Bool.Decides.{nat_tests}
 use Rattle.paxos_msg.specs.declared.value.Value.{Value}
 use Rattle.paxos_msg.specs.declared.value.Value.TheVariants.{Keys}
-use Rattle.paxos_msg.specs.declared.message.Body.TheVariants.{Ask, Submit, Tell, Prepare, Accept}
+use Rattle.paxos_msg.specs.declared.message.Body.TheVariants.{Submit, Tell, Prepare, Accept}
 use Rattle.paxos_msg.specs.Bodies.{IsBody}
-use Rattle.paxos_msg.specs.Fits.{IsBallot, IsValue, AreBytes}
+use Rattle.paxos_msg.specs.Fits.{IsValue, AreBytes}
 use Rattle.paxos_msg.specs.Keys.{AreOwnKeys, batches, keys_from, Key}
-use Rattle.paxos_learner.specs.Learner.{AreInWindow, front_of}
-use Rattle.group_protocol.specs.Known.{front, Known, own_batch}
+use Rattle.group_protocol.specs.Known.{Known}
 use Rattle.group_protocol.specs.WaitingKeys.{batch_of}
 use Rattle.group_protocol.specs.Ranges.{IsInRange, AreFit, IsOwnProposer}
-use Rattle.std.proofs.lemmas.List.Elements.{All-cons}
 use Rattle.paxos_msg.specs.Batches.{Body}
 use Rattle.paxos_acceptor.specs.declared.me.Me.{Me}
 use Rattle.paxos_proposer.specs.Proposer.{asks_on, next_of, next_value, Proposer, proposing}
 use Rattle.paxos_proposer.specs.States.{IsProposerInRange}
 use Rattle.group_protocol.specs.ProposerRows.{offer_after}
-use Rattle.group_protocol.specs.Packets.{Packet, to_all}
-use Rattle.group_protocol.specs.Pump.{accepts_of, offer, Proposals, propose, pump, stop}
+use Rattle.group_protocol.specs.Packets.{Packet}
+use Rattle.group_protocol.specs.Pump.{offer, Proposals, propose, pump}
 use Rattle.group_protocol.proofs.WaitingKeys.{batch_typed}
 
 -- ---- what waits and what is learned
 
 -- the first bytes are bytes
-pub take_bytes : (n : ℕ) (bytes : List ℕ) → AreBytes bytes → AreBytes (take n bytes)
+take_bytes : (n : ℕ) (bytes : List ℕ) → AreBytes bytes → AreBytes (take n bytes)
 take_bytes n bytes h i = grind (arith, nat_tests, cases_lt, get_or-take, length-take, get_or_past)
 
 -- the keys of a node's batch are its own
@@ -37,40 +34,19 @@ own_keys : (node start serial x : ℕ) (xs : List ℕ) → AreOwnKeys batches no
 own_keys node start serial x xs = (batch_typed (keys_from node start serial (x ∷ xs)) node start serial x xs (λ key has. has)).own
 
 module _ (n : Known) (h : IsInRange n) where
-  -- some of the characters that wait, the first ones, as a batch
-  first_fits : (bytes : List ℕ) → 0 < length bytes → length bytes ≤ 32 → n.first + length bytes ≤ 4294967296
-      → AreBytes bytes → IsBody n.me.group.size n.me.node (Submit (own_batch n n.first bytes))
-  first_fits [] some few fits are = absurd (omega arith)
-  first_fits (x ∷ xs) some few fits are = (
-    (h.me.node, (h.counted, h.kept.starts), (h.waiting.some, some, few, fits, are)),
-    own_keys n.me.node n.kept.starts
-        n.first x xs,
-  )
-
-  -- the batch of the characters that wait, if there is one
-  batch_fits : (bytes : List ℕ) → bytes ≡ n.waiting → (v : Value) → batch_of n bytes ≡ Some v → IsBody n.me.group.size n.me.node (Submit v)
-  batch_fits [] all v e = absurd cc
-  batch_fits (x ∷ xs) all v e =
-      let few = length-take 32 (x ∷ xs) in
+  -- the Submit of the characters that wait, if there is one
+  pub submit_fits : (bytes : List ℕ) → bytes ≡ n.waiting → (v : Value) → batch_of n bytes ≡ Some v
+      → IsBody n.me.group.size n.me.node (Submit v)
+  submit_fits [] all v e = absurd cc
+  submit_fits (x ∷ xs) all v e =
+      let few = length-take 31 xs in
       let many = ap length all in
-      let fits = h.waiting.fits in
-      let are : AreBytes (x ∷ xs) = subst AreBytes (sym all) h.waiting.characters in
-      let is : own_batch n n.first (take 32 (x ∷ xs)) ≡ v = cc in
-      subst (λ (w : Value). IsBody n.me.group.size n.me.node (Submit w)) is
-      (first_fits (take 32 (x ∷ xs)) (omega arith) (omega arith) (omega arith) (take_bytes 32 (x ∷ xs) are))
-
-  -- its Submit
-  pub submit_fits : (v : Value) → batch_of n n.waiting ≡ Some v → IsBody n.me.group.size n.me.node (Submit v)
-  submit_fits = batch_fits n.waiting refl
+      let are = take_bytes 32 (x ∷ xs) (rw all h.waiting.characters) in
+      grind (arith, few, many, are, own_keys n.me.node n.kept.starts n.first x (take 31 xs), h.waiting.fits)
 
   -- the Tell of what is learned
   pub tell_fits : (s : ℕ) (v : Value) → get n.learner.learned s ≡ Some v → IsBody n.me.group.size n.me.node (Tell s v)
   tell_fits s v e = grind (arith, nat_tests)
-
-  -- the Ask from the front
-  pub ask_fits : ((learned : FinMap nat_cmp Value) → AreInWindow learned → front_of learned ≤ 65536)
-      → IsBody n.me.group.size n.me.node (Ask (front n))
-  ask_fits few = few n.learner.learned h.learner.window
 
 -- ---- proposals
 
@@ -87,27 +63,20 @@ module _ (me : Me) (p : Proposer) (h : IsOwnProposer me p) where
   pub own_body : (body : Body) → IsBody p.size p.ballot.node body → IsBody me.group.size me.node body
   own_body body fits = grind (arith, nat_tests)
 
-  -- its ballot is one of the node's group
-  pub own_ballot : IsBallot me.group.size p.ballot
-  own_ballot = grind (arith, nat_tests)
-
   -- a Prepare under it, from any place that there is
   pub own_prepare : (s : ℕ) → s < 65536 → IsBody me.group.size me.node (Prepare p.ballot s)
-  own_prepare s low = (own_ballot, h.own, omega arith)
+  own_prepare s low = grind (arith, nat_tests)
 
   -- the Prepare after a part
   pub asks_on_fits : (j first upto s : ℕ) → asks_on p j first upto ≡ Some s → IsBody me.group.size me.node (Prepare p.ballot s)
   asks_on_fits j first upto s e = grind (arith, nat_tests)
 
-  -- what is offered is in the ranges of the proposer's group
-  offered_fits : (offered : Option Value) → IfSome offered (IsValue me.group.size) → IfSome offered (IsValue p.size)
-  offered_fits offered free = grind (arith, nat_tests)
-
   module _ (laws : AcceptLaws) where
     -- the Accept of its next proposal
     pub next_fits : (offered : Option Value) (v : Value) → IfSome offered (IsValue me.group.size)
         → next_value p offered ≡ Some v → IsBody me.group.size me.node (Accept p.ballot (next_of p) v)
-    next_fits offered v free e = own_body (Accept p.ballot (next_of p) v) (laws.sends p offered v h.ranges (offered_fits offered free) e)
+    next_fits offered v free e =
+        own_body (Accept p.ballot (next_of p) v) (laws.sends p offered v h.ranges (rw h.size free) e)
 
     -- it is the node's own still after its proposal
     pub next_own : (offered : Option Value) → IfSome offered (IsValue me.group.size) → IsOwnProposer me (proposing p (next_value p offered))
@@ -118,36 +87,23 @@ pub led_range : (n : Known) → IsInRange n → {o : Option Proposer} {offered :
     → IsInRange (record n { proposer = o; offered = offered })
 led_range n h own = grind (arith, nat_tests)
 
+-- the packet of a node has a spelling
+abbrev pub IsPacketFit : Me → Packet → Type 0
+IsPacketFit me packet = IsBody me.group.size me.node packet.body
+
 module _ (laws : AcceptLaws) (me : Me) where
-  -- the packet of a node has a spelling
-  abbrev IsPacketFit : Packet → Type 0
-  IsPacketFit packet = IsBody me.group.size me.node packet.body
-
-  -- no proposal
-  stop_fits : (p : Proposer) → IsOwnProposer me p → AreFit me p (stop p)
-  stop_fits p h = grind (arith, nat_tests)
-
   -- a proposal, if there is one, and what goes on after it
   propose_fits : (p : Proposer) → IsOwnProposer me p → (offered o : Option Value) (go_on : Proposer → Proposals)
       → IfSome offered (IsValue me.group.size) → next_value p offered ≡ o
       → ((q : Proposer) → IsOwnProposer me q → AreFit me q (go_on q)) → AreFit me p (propose p o go_on)
-  propose_fits p h offered None go_on free e goes = stop_fits p h
+  propose_fits p h offered None go_on free e goes = grind (arith, nat_tests)
   propose_fits p h offered (Some v) go_on free e goes =
-      let q : Proposer = proposing p (Some v) in
-      let own : IsOwnProposer me q = subst (λ (o : Option Value). IsOwnProposer me (proposing p o)) e (next_own me p h laws offered free) in
-      let rest = goes q own in
-      record {
-        own = rest.own;
-        ballot = rest.ballot;
-        sends =
-            All-cons IsPacketFit (to_all (Accept p.ballot (next_of p) v)) (accepts_of (go_on q).made)
-            (next_fits me p h laws offered v free e) rest.sends;
-      }
+      grind (arith, next_own me p h laws offered free, next_fits me p h laws offered v free e)
 
   -- a pump
   pub pump_fits : (n : ℕ) (p : Proposer) → IsOwnProposer me p → AreFit me p (pump n p)
   unfolding pump
-  pump_fits zero p h = stop_fits p h
+  pump_fits zero p h = grind (arith, nat_tests)
   pump_fits (suc n) p h = propose_fits p h None (next_value p None) (pump n) tt refl (pump_fits n)
 
   -- an offer

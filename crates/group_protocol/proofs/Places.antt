@@ -1,30 +1,21 @@
 -- What places give, one after another, goes into an outbox.
-use Rattle.std.proofs.Common.{◌≡◌, ◌∙◌, ℕ, zero, suc, ◌+◌, ◌≤◌, List, [], ◌∷◌, ◌++◌, length, take, Option, Some, None, is_some, true, false, refl, sym, ap, arith, add-zero, append_assoc, length-append}
+use Rattle.std.proofs.Common.{◌≡◌, ℕ, zero, suc, ◌+◌, ◌≤◌, List, ◌∷◌, ◌++◌, length, take, Option, refl, ap, arith, append_assoc}
 use Rattle.std.proofs.lemmas.Bool.Decides.{nat_tests}
-use Rattle.std.specs.List.{cons_option, filter_map, range_with_len}
+use Rattle.std.specs.List.{filter_map, range_with_len}
 use Rattle.std.specs.Option.{option_to_list}
 use Rattle.std.proofs.lemmas.List.{map-append, take-append-le, take_all}
 use Rattle.std.proofs.lemmas.List.Elements.{filter_map-append}
 use Rattle.paxos_acceptor.specs.declared.me.Me.{Me}
-use Rattle.group_protocol.specs.Packets.{Datagram, Packet, datagram_of, datagrams_of}
+use Rattle.group_protocol.specs.Packets.{Datagram, Packet, datagrams_of}
 
 -- ---- lists
 
-cons_append : {X : Type 0} (o : Option X) (xs ys : List X) → cons_option o (xs ++ ys) ≡ cons_option o xs ++ ys
-cons_append o xs ys = grind (arith, nat_tests)
-
-cons_nil : {X : Type 0} (o : Option X) → cons_option o [] ≡ option_to_list o
-cons_nil None = refl
-cons_nil (Some x) = refl
-
 -- what one place more gives
-one_more : {X : Type 0} (f : ℕ → Option X) (a n : ℕ)
+pub one_more : {X : Type 0} (f : ℕ → Option X) (a n : ℕ)
     → filter_map f (range_with_len a (suc n)) ≡ filter_map f (range_with_len a n) ++ option_to_list (f (a + n))
-one_more f a zero = rw add-zero (cons_nil (f a))
+one_more f a zero = grind (arith, nat_tests)
 one_more {X} f a (suc n) =
-    let at : a + 1 + n ≡ a + suc n = omega arith in
-    ap (cons_option (f a)) (one_more f (a + 1) n ∙ ap (λ (s : ℕ). filter_map f (range_with_len (a + 1) n) ++ option_to_list (f s)) at)
-    ∙ cons_append (f a) (filter_map f (range_with_len (a + 1) n)) (option_to_list (f (a + suc n)))
+    grind (arith, one_more f (a + 1) n)
 
 -- numbers in a row are fewer of them, and the rest
 range_parts : (a n m : ℕ) → n ≤ m → (rest : List ℕ) × (range_with_len a m ≡ range_with_len a n ++ rest)
@@ -32,27 +23,12 @@ range_parts a zero m few = (range_with_len a m, refl)
 range_parts a (suc n) zero few = absurd (omega arith)
 range_parts a (suc n) (suc m) few = let parts = range_parts (a + 1) n m (omega arith) in (parts.0, ap (λ (l : List ℕ). a ∷ l) parts.1)
 
-pub length_some : {X : Type 0} (o : Option X) → is_some o ≡ true → length (option_to_list o) ≡ 1
-length_some o e = grind (arith, nat_tests)
-
-pub length_none : {X : Type 0} (o : Option X) → is_some o ≡ false → length (option_to_list o) ≡ 0
-length_none o e = grind (arith, nat_tests)
-
--- how many one place more gives
-pub counted_more : {X : Type 0} (f : ℕ → Option X) (a n s next : ℕ) → a + n ≡ s → next ≡ suc n
-    → length (filter_map f (range_with_len a next)) ≡ length (filter_map f (range_with_len a n)) + length (option_to_list (f s))
-counted_more f a n s next here is =
-    rw (is, ← here, one_more f a n) (length-append (filter_map f (range_with_len a n)) (option_to_list (f (a + n))))
-
 -- the first of what this many places give are all that fewer of them give
 first_give : {X : Type 0} (f : ℕ → Option X) (a n m most : ℕ) → n ≤ m → length (filter_map f (range_with_len a n)) ≡ most
     → take most (filter_map f (range_with_len a m)) ≡ filter_map f (range_with_len a n)
 first_give f a n m most few full =
     let parts = range_parts a n m few in
-    let less = filter_map f (range_with_len a n) in
-    ap (take most) (ap (filter_map f) parts.1 ∙ filter_map-append f (range_with_len a n) parts.0)
-    ∙ take-append-le most less (filter_map f parts.0) (omega arith)
-    ∙ take_all most less (omega arith)
+    grind (arith, parts.1, filter_map-append f (range_with_len a n) parts.0, take-append-le, take_all)
 
 -- ---- packets
 
@@ -66,15 +42,7 @@ pub more_put : {me : Me} {f : ℕ → Option Packet} {first : ℕ} {before now t
     → first + count ≡ place → next ≡ suc count → then ≡ now ++ datagrams_of me (option_to_list (f place))
     → ArePut me f first before then next
 more_put {me} {f} {first} {before} {now} {then} {count} place next h here is packets =
-    let more = option_to_list (f place) in
-    record {
-      packets =
-          packets
-          ∙ ap (λ (l : List Datagram). l ++ datagrams_of me more) h.packets
-          ∙ append_assoc before (datagrams_of me (filter_map f (range_with_len first count))) (datagrams_of me more)
-          ∙ ap (λ (l : List Datagram). before ++ l) (sym (map-append (datagram_of me) (filter_map f (range_with_len first count)) more))
-          ∙ ap (λ (l : List Packet). before ++ datagrams_of me l) (rw (is, ← here) (sym (one_more f first count)));
-    }
+    grind (arith, append_assoc, map-append, one_more)
 
 -- of this many places that most of what is to be put in is
 pub most_put : {me : Me} {f : ℕ → Option Packet} {first : ℕ} {before now : List Datagram} {count : ℕ} (many most : ℕ)

@@ -1,5 +1,5 @@
 -- The proposals of a pump, one after another, are those of the definition.
-use Rattle.std.proofs.Common.{◌≡◌, ◌∙◌, ℕ, zero, suc, ◌+◌, ◌<◌, ◌≤◌, List, [], ◌∷◌, ◌++◌, length, Option, Some, None, IsSome, refl, sym, ap, arith, append_assoc, length-append}
+use Rattle.std.proofs.Common.{◌≡◌, ◌∙◌, ℕ, zero, suc, ◌+◌, ◌<◌, ◌≤◌, List, [], ◌∷◌, ◌++◌, length, Option, Some, None, IsSome, refl, sym, arith, append_assoc, length-append}
 use Rattle.std.proofs.lemmas.List.{append-nil, map-append}
 use Rattle.std.proofs.lemmas.Bool.Decides.{nat_tests}
 use Rattle.paxos_msg.specs.declared.value.Value.{Value}
@@ -10,7 +10,7 @@ use Rattle.group_protocol.specs.Packets.{Datagram, datagrams_of}
 use Rattle.group_protocol.specs.Pump.{accepts_of, propose, pump, stop}
 
 -- the Accepts of some proposals and of more, as datagrams
-pub accepts_append : (me : Me) (made more : List Vote)
+accepts_append : (me : Me) (made more : List Vote)
     → datagrams_of me (accepts_of (made ++ more))
     ≡ datagrams_of me (accepts_of made) ++ datagrams_of me (accepts_of more)
 accepts_append me made more = grind (arith, nat_tests, map-append, made, more)
@@ -50,62 +50,52 @@ pump_none : (left : ℕ) (p : Proposer) → next_value p None ≡ None → ((pum
 unfolding pump
 pump_none left p e = grind (arith, nat_tests)
 
--- one more
-more : {me : Me} {began p : Proposer} {before now : List Datagram} {count : ℕ} (v : Value)
-    → IsPumping me began before now count p → count < 16 → next_value p None ≡ Some v
-    → IsPumping me began before (now ++ datagrams_of me (accepts_of (proposal p v ∷ []))) (count + 1) (proposing p (Some v))
-more {me} {began} {p} {before} {now} {count} v h few e = by_left h.left h.all h.proposer h.proposals where
-  by_left : (left : ℕ) → count + left ≡ 16 → (pump 16 began).proposer ≡ (pump left p).proposer
-      → (pump 16 began).made ≡ h.made ++ (pump left p).made
-      → IsPumping me began before (now ++ datagrams_of me (accepts_of (proposal p v ∷ []))) (count + 1) (proposing p (Some v))
-  by_left zero all proposer proposals = absurd (omega (arith, few))
-  by_left (suc left) all proposer proposals =
-      let next = pump_some left p v e in
-      record {
-        made = h.made ++ proposal p v ∷ [];
-        left = left;
-        all = omega arith;
-        counted = rw (length-append h.made (proposal p v ∷ [])) (omega (arith, h.counted));
-        proposer = proposer ∙ next.0;
-        proposals =
-            proposals ∙ ap (λ (votes : List Vote). h.made ++ votes) next.1
-            ∙ sym (append_assoc h.made (proposal p v ∷ []) (pump left (proposing p (Some v))).made);
-        packets =
-            ap (λ (l : List Datagram). l ++ datagrams_of me (accepts_of (proposal p v ∷ []))) h.packets
-            ∙ append_assoc before (datagrams_of me (accepts_of h.made)) (datagrams_of me (accepts_of (proposal p v ∷ [])))
-            ∙ ap (λ (l : List Datagram). before ++ l) (sym (accepts_append me h.made (proposal p v ∷ [])));
-      }
-
 -- what a pump comes to, as the code says
 pub record IsPumped (me : Me) (began : Proposer) (before now : List Datagram) (count : ℕ) (p : Proposer) : Type 0 where
   pub proposer : p ≡ (pump 16 began).proposer
   pub packets : now ≡ before ++ datagrams_of me (accepts_of (pump 16 began).made)
   pub counted : count ≡ length (pump 16 began).made
 
--- it is over where nothing is left to propose
-over : {me : Me} {began p : Proposer} {before now : List Datagram} {count : ℕ} (h : IsPumping me began before now count p)
-    → ((pump h.left p).proposer ≡ p) × ((pump h.left p).made ≡ []) → IsPumped me began before now count p
-over h none = grind (arith, nat_tests, append-nil)
+module _ {me : Me} {began p : Proposer} {before now : List Datagram} {count : ℕ} (h : IsPumping me began before now count p) where
+  -- one more
+  more : (v : Value) → count < 16 → next_value p None ≡ Some v
+      → IsPumping me began before (now ++ datagrams_of me (accepts_of (proposal p v ∷ []))) (count + 1) (proposing p (Some v))
+  more v few e = by_left h.left h.all h.proposer h.proposals where
+    by_left : (left : ℕ) → count + left ≡ 16 → (pump 16 began).proposer ≡ (pump left p).proposer
+        → (pump 16 began).made ≡ h.made ++ (pump left p).made
+        → IsPumping me began before (now ++ datagrams_of me (accepts_of (proposal p v ∷ []))) (count + 1) (proposing p (Some v))
+    by_left zero all proposer proposals = absurd (omega (arith, few))
+    by_left (suc left) all proposer proposals =
+        let next = pump_some left p v e in
+        record {
+          made = h.made ++ proposal p v ∷ [];
+          left = left;
+          all = omega arith;
+          counted = rw (length-append h.made (proposal p v ∷ [])) (omega (arith, h.counted));
+          proposer = proposer ∙ next.0;
+          proposals = grind (arith, proposals, next.1, append_assoc);
+          packets = grind (arith, h.packets, append_assoc, accepts_append);
+        }
 
--- where no value is found, as the code says
-pub over_none : {me : Me} {began p q : Proposer} {before now then : List Datagram} {count : ℕ} (o : Option Value)
-    → IsPumping me began before now count p
-    → next_value p None ≡ o → o ≡ None → q ≡ (propose p o stop).proposer
-    → then ≡ now ++ datagrams_of me (accepts_of (propose p o stop).made) → IsPumped me began before then count q
-over_none o h e none proposer packets = grind (arith, nat_tests, append-nil, over, pump_none)
+  -- it is over where nothing is left to propose
+  over : ((pump h.left p).proposer ≡ p) × ((pump h.left p).made ≡ []) → IsPumped me began before now count p
+  over none = grind (arith, nat_tests, append-nil)
 
--- where 16 were made
-pub over_all : {me : Me} {began p : Proposer} {before now : List Datagram} {count : ℕ}
-    → IsPumping me began before now count p → 16 ≤ count → IsPumped me began before now count p
-unfolding pump
-over_all {me} {began} {p} {before} {now} {count} h most =
-    let none : h.left ≡ 0 = omega (arith, h.all, most) in
-    over h (rw none (refl, refl))
+  -- where no value is found, as the code says
+  pub over_none : {q : Proposer} {then : List Datagram} (o : Option Value)
+      → next_value p None ≡ o → o ≡ None → q ≡ (propose p o stop).proposer
+      → then ≡ now ++ datagrams_of me (accepts_of (propose p o stop).made) → IsPumped me began before then count q
+  over_none o e none proposer packets = grind (arith, nat_tests, append-nil, over, pump_none)
 
--- one more, as the code says
-pub pumping_more : {me : Me} {began p q : Proposer} {before now then : List Datagram} {count : ℕ} (o : Option Value)
-    → IsPumping me began before now count p → count < 16
-    → next_value p None ≡ o → IsSome o → q ≡ (propose p o stop).proposer
-    → then ≡ now ++ datagrams_of me (accepts_of (propose p o stop).made)
-    → IsPumping me began before then (count + 1) q
-pumping_more o h few e some proposer packets = grind (arith, nat_tests, more)
+  -- where 16 were made
+  pub over_all : 16 ≤ count → IsPumped me began before now count p
+  unfolding pump
+  over_all most =
+      let none : h.left ≡ 0 = omega (arith, h.all, most) in
+      over (rw none (refl, refl))
+
+  -- one more, as the code says
+  pub pumping_more : {q : Proposer} {then : List Datagram} (o : Option Value) → count < 16
+      → next_value p None ≡ o → IsSome o → q ≡ (propose p o stop).proposer
+      → then ≡ now ++ datagrams_of me (accepts_of (propose p o stop).made) → IsPumping me began before then (count + 1) q
+  pumping_more o few e some proposer packets = grind (arith, nat_tests, more)

@@ -1,6 +1,6 @@
 -- What a node may send, after which it is backed: packets that propose nothing new, proposals, and
 -- the calls that its proposer answers.
-use Rattle.std.proofs.Common.{◌≡◌, ◌↔◌, ℕ, List, [], ◌∷◌, ◌++◌, Option, All, inl, inr, append_assoc, arith, zero, suc, Some, None, IfSome, refl, subst}
+use Rattle.std.proofs.Common.{◌≡◌, ◌↔◌, ◌⊎◌, ℕ, List, [], ◌∷◌, ◌++◌, Option, All, inl, inr, append_assoc, arith, zero, suc, Some, None, IfSome, refl}
 use Rattle.std.proofs.lemmas.Bool.Decides.{nat_tests}
 use Rattle.std.proofs.lemmas.List.{append-nil, map-append}
 use Rattle.std.proofs.lemmas.List.Elements.{All-head, All-tail, All-map, All-contains, All-weaker, Contains-append_cases}
@@ -10,13 +10,12 @@ use Rattle.paxos_msg.specs.declared.value.Value.{Value}
 use Rattle.paxos_msg.specs.declared.message.Body.TheVariants.{Accept, Prepare}
 use Rattle.paxos_msg.specs.Batches.{Body, MaySend, MaySendAll, Msg, Record, Sent, IsFree}
 use Rattle.paxos_msg.specs.Keys.{Key}
-use Rattle.paxos_msg.specs.Messages.{messages_of}
+use Rattle.paxos_msg.specs.Messages.{IsSaid, messages_of}
 use Rattle.paxos_msg.specs.Sending.{IsNoNewProposal, KnowsMore}
-use Rattle.group_protocol.specs.Backs.{Backs, HasPromised, IsRecordBacked, IsLeadingBacked}
+use Rattle.group_protocol.specs.Backs.{Backs, HasPromised, IsLeadingBacked}
 use Rattle.group_protocol.specs.Known.{Known, quiet}
 use Rattle.group_protocol.specs.Packets.{Packet, bodies_of}
 use Rattle.group_protocol.specs.Steps.{messages_handed_out, IsLawful}
-use Rattle.paxos_msg.specs.Ballots.{IsAtMost}
 use Rattle.paxos_proposer.specs.Backed.{IsProposerBacked}
 use Rattle.paxos_proposer.specs.Proposer.{Proposer, next_of, next_value, proposing}
 use Rattle.group_protocol.specs.Pump.{accepts_of, offer, Proposals, propose, pump, stop}
@@ -65,17 +64,9 @@ pub record Goes (by : Sender) (sent : Sent) (packets : List Packet) (n : Known) 
   pub sends : SendsAll by sent packets
   pub backs : Backs (sent ++ messages_handed_out by.me packets) by.typed n
 
--- who knows the same knows more
-knows_same : (typed : List Key) (learned : ℕ → Option Value) → KnowsMore typed typed learned learned
-knows_same typed learned = grind (arith, nat_tests)
-
 -- a packet as a message
 abbrev message_of : Sender → Packet → Msg
 message_of by packet = record { sender = by.me; body = packet.body }
-
--- the messages of packets in two parts
-handed_append : (i : ℕ) (xs ys : List Packet) → messages_handed_out i (xs ++ ys) ≡ messages_handed_out i xs ++ messages_handed_out i ys
-handed_append i xs ys = simp map-append
 
 -- packets in two parts may be sent as one
 pub goes_on : {by : Sender} {sent : Sent} {xs ys : List Packet} {m n : Known} → SendingLaws → Goes by sent xs m
@@ -83,8 +74,8 @@ pub goes_on : {by : Sender} {sent : Sent} {xs ys : List Packet} {m n : Known} �
 goes_on {by} {sent} {xs} {ys} laws h k = record {
   sends =
       rw (map-append (λ (packet : Packet). packet.body) xs ys)
-      ((laws.halves by.size by.me by.typed by.learned sent by.kept (bodies_of xs) (bodies_of ys)).1 (h.sends, k.sends));
-  backs = rw (handed_append by.me xs ys, ← append_assoc sent (messages_handed_out by.me xs) (messages_handed_out by.me ys)) k.backs;
+      ((laws.halves _ _ _ _ _ _ (bodies_of xs) (bodies_of ys)).1 (h.sends, k.sends));
+  backs = grind (arith, nat_tests, map-append, append_assoc, k.backs);
 }
 
 -- a Prepare is of a promised ballot
@@ -92,62 +83,46 @@ abbrev IsAsked : Record → Body → Type 0
 IsAsked r (Prepare b from) = HasPromised r b
 IsAsked r other = Unit {0}
 
--- the rules ask that of what may be sent
-may_ask : (r : Record) (typed : List Key) (learned : ℕ → Option Value) (sent : Sent) (i size : ℕ) (body : Body)
-    → MaySend size typed learned sent i r body → IsAsked r body
-may_ask r typed learned sent i size body may = grind (arith, nat_tests)
-
 module _ (laws : SendingLaws) (by : Sender) (sent : Sent) where
-  -- they may be sent one after another, after more was sent
+  -- packets that propose nothing new may be sent one after another, after more was sent
   stable_from : (more : Sent) (packets : List Packet) → All (IsStable by sent) packets → SendsAll by (sent ++ more) packets
   stable_from more [] all = tt
   stable_from more (x ∷ xs) all =
       let first : IsStable by sent x = All-head (IsStable by sent) x xs all in
       let rest = stable_from (more ++ message_of by x ∷ []) xs (All-tail (IsStable by sent) x xs all) in (
         laws.still by.size by.me by.typed by.typed by.learned by.learned sent more by.kept x.body
-            (knows_same by.typed by.learned) first.old first.may,
+            (grind (arith, nat_tests)) first.old first.may,
         rw (append_assoc sent more (message_of by x ∷ [])) rest,
       )
 
-  -- they may be sent one after another
-  pub stable_sends : (packets : List Packet) → All (IsStable by sent) packets → SendsAll by sent packets
-  stable_sends packets all = rw (append-nil sent) at (stable_from [] packets all)
-
-  -- what holds of the body of each holds of the body of each message
-  each_message : (P : Body → Type 0) → ((packet : Packet) → IsStable by sent packet → P packet.body) → (packets : List Packet)
-      → All (IsStable by sent) packets → All (λ m. P m.body) (messages_handed_out by.me packets)
-  each_message P h packets all =
-      All-map (λ (m : Msg). P m.body) (λ (body : Body). record { sender = by.me; body = body }) (bodies_of packets)
-      (All-map P (λ (packet : Packet). packet.body) packets
-      (All-weaker (IsStable by sent) (λ (packet : Packet). P packet.body) h packets all))
+  -- what is said once they are sent was said before, or is what one of them says
+  said_or_sent : (P : Body → Type 0) → ((packet : Packet) → IsStable by sent packet → P packet.body) → (packets : List Packet)
+      → All (IsStable by sent) packets → (body : Body) → IsSaid (sent ++ messages_handed_out by.me packets) body
+      → IsSaid sent body ⊎ P body
+  said_or_sent P h packets all body (i, has) =
+      elim (Contains-append_cases sent (messages_handed_out by.me packets) (record { sender = i; body = body }) has) [
+        | inl before ↦ inl (i, before)
+        | inr now ↦ inr (All-contains (λ (m : Msg). P m.body) _ _
+            (All-map (λ (m : Msg). P m.body) (λ (body : Body). record { sender = by.me; body = body }) (bodies_of packets)
+            (All-map P (λ (packet : Packet). packet.body) packets
+            (All-weaker (IsStable by sent) (λ (packet : Packet). P packet.body) h packets all))) now)
+      ]
 
   -- they have no new Accept, and their Prepares are of promised ballots
   stable_quiet : (packets : List Packet) → All (IsStable by sent) packets → IsQuiet by.me by.kept sent (messages_handed_out by.me packets)
-  stable_quiet packets all =
-      let more = messages_handed_out by.me packets in
-      let may = λ (x : Packet) (h : IsStable by sent x). may_ask by.kept by.typed by.learned sent by.me by.size x.body h.may in
-      let asked = each_message (IsAsked by.kept) may packets all in
-      let old = each_message (IsNoNewProposal sent by.me) (λ packet h. h.old) packets all in
-      record {
-        asked = λ b from mine said.
-            let m : Msg = record { sender = said.0; body = Prepare b from } in
-            elim (Contains-append_cases sent more m said.1) [
-              | inl before ↦ inl (said.0, before)
-              | inr now ↦ inr (All-contains (λ (m : Msg). IsAsked by.kept m.body) more m asked now)
-            ];
-        old = λ b s v mine said.
-            let m : Msg = record { sender = said.0; body = Accept b s v } in
-            elim (Contains-append_cases sent more m said.1) [
-              | inl before ↦ (said.0, before)
-              | inr now ↦ (by.me, All-contains (λ (m : Msg). IsNoNewProposal sent by.me m.body) more m old now)
-            ];
-      }
+  stable_quiet packets all = record {
+    asked = λ b from mine said. said_or_sent (IsAsked by.kept) (λ packet h. grind (arith, nat_tests)) packets all (Prepare b from) said;
+    old = λ b s v mine said. elim (said_or_sent (IsNoNewProposal sent by.me) (λ packet h. h.old) packets all (Accept b s v) said) [
+      | inl before ↦ before
+      | inr old ↦ (by.me, old)
+    ];
+  }
 
 -- a backed node may send them, and is backed then
 pub stable_goes : SendingLaws → (sent : Sent) (typed : List Key) (n : Known) (packets : List Packet)
     → Backs sent typed n → All (IsStable (sender_of typed n) sent) packets → Goes (sender_of typed n) sent packets n
 stable_goes laws sent typed n packets h all = record {
-  sends = stable_sends laws (sender_of typed n) sent packets all;
+  sends = rw (append-nil sent) at (stable_from laws (sender_of typed n) sent [] packets all);
   backs =
       backs_later laws.backing sent (messages_handed_out n.me.node packets) typed n
       (stable_quiet laws (sender_of typed n) sent packets all) h;
@@ -170,13 +145,9 @@ pub record ProposingLaws : Type 0 where
 abbrev pub leading : Known → Proposer → Known
 leading n p = record n { proposer = Some p }
 
--- a ballot is at most itself
-pub at_most_same : (b : Ballot) → IsAtMost b b
-at_most_same b = inr (refl, omega arith)
-
 -- the promised ballot has been promised
 pub promised_same : (r : Record) (b : Ballot) → r.promised ≡ Some b → HasPromised r b
-promised_same r b e = rw e (at_most_same b)
+promised_same r b e = grind (arith, nat_tests)
 
 -- proposals that may be sent, after which the node is backed, and its proposer is of its group
 pub record Proposes (typed : List Key) (n : Known) (sent : Sent) (proposals : Proposals) : Type 0 where
@@ -184,34 +155,33 @@ pub record Proposes (typed : List Key) (n : Known) (sent : Sent) (proposals : Pr
   pub size : proposals.proposer.size ≡ n.me.group.size
 
 module _ (laws : ProposingLaws) (typed : List Key) (n : Known) where
-  -- one Accept more under the promised ballot keeps the stored record backed
-  record_backed : (sent : Sent) (p : Proposer) (s : ℕ) (v : Value) → n.kept.promised ≡ Some p.ballot → IsRecordBacked sent n.me.node n.kept
-      → IsRecordBacked (sent ++ record { sender = n.me.node; body = Accept p.ballot s v } ∷ []) n.me.node n.kept
-  record_backed sent p s v promised h = record {
-    votes = laws.sending.backing.votes sent (record { sender = n.me.node; body = Accept p.ballot s v } ∷ []) n.kept h.votes;
-    asked = λ b from mine said. grind (arith, h.asked b from mine, said_push sent n.me.node (Accept p.ballot s v) (Prepare b from) said);
-    own = λ b t w mine said. grind (arith, h.own b t w mine, said_push sent n.me.node (Accept p.ballot s v) (Accept b t w) said);
-  }
+  -- what a proposer of the node's proposes, as a message
+  abbrev proposal_of : Proposer → Value → Msg
+  proposal_of p v = record { sender = n.me.node; body = Accept p.ballot (next_of p) v }
 
   -- a node is backed once its proposal is sent
   proposing_backed : (sent : Sent) (p : Proposer) (v : Value) → Backs sent typed (leading n p)
-      → Backs (sent ++ record { sender = n.me.node; body = Accept p.ballot (next_of p) v } ∷ []) typed (leading n (proposing p (Some v)))
-  proposing_backed sent p v h = record {
-    kept = record_backed sent p (next_of p) v h.proposer.promised h.kept;
-    proposer = record { backed = laws.proposed sent n.me.node p v h.proposer.backed; promised = h.proposer.promised };
-    learner =
-        learner_later laws.sending.backing sent
-        (record { sender = n.me.node; body = Accept p.ballot (next_of p) v } ∷ []) n.learner h.learner;
-    waiting = h.waiting;
-  }
-
-  -- no proposal
-  pub stop_goes : (sent : Sent) (p : Proposer) → p.size ≡ n.me.group.size → Backs sent typed (leading n p) → Proposes typed n sent (stop p)
-  stop_goes sent p size h = grind (arith, nat_tests, append-nil)
+      → Backs (sent ++ proposal_of p v ∷ []) typed (leading n (proposing p (Some v)))
+  proposing_backed sent p v h =
+      let said_was = said_push sent n.me.node (proposal_of p v).body in
+      record {
+        kept = record {
+          votes = laws.sending.backing.votes sent (proposal_of p v ∷ []) n.kept h.kept.votes;
+          asked = λ b from mine said. grind (arith, h.kept.asked b from mine, said_was (Prepare b from) said);
+          own = λ b s w mine said. grind (arith, h.proposer.promised, h.kept.own b s w mine, said_was (Accept b s w) said);
+        };
+        proposer = record { backed = laws.proposed sent n.me.node p v h.proposer.backed; promised = h.proposer.promised };
+        learner = learner_later laws.sending.backing sent (proposal_of p v ∷ []) n.learner h.learner;
+        waiting = h.waiting;
+      }
 
   -- what goes on from each proposer that is backed
   abbrev GoesOn : (Proposer → Proposals) → Type 0
   GoesOn go_on = (sent : Sent) (p : Proposer) → p.size ≡ n.me.group.size → Backs sent typed (leading n p) → Proposes typed n sent (go_on p)
+
+  -- no proposal
+  pub stop_goes : GoesOn stop
+  stop_goes sent p size h = grind (arith, nat_tests, append-nil)
 
   -- a proposal, if there is one, and what goes on after it
   propose_goes : (sent : Sent) (p : Proposer) (offered o : Option Value) (go_on : Proposer → Proposals)
@@ -220,20 +190,12 @@ module _ (laws : ProposingLaws) (typed : List Key) (n : Known) where
       → Proposes typed n sent (propose p o go_on)
   propose_goes sent p offered None go_on free e goes size h = stop_goes sent p size h
   propose_goes sent p offered (Some v) go_on free e goes size h =
-      let m : Msg = record { sender = n.me.node; body = Accept p.ballot (next_of p) v } in
+      let m = proposal_of p v in
       let rest = goes (sent ++ m ∷ []) (proposing p (Some v)) size (proposing_backed sent p v h) in
       let by = sender_of typed n in
       let may : MaySend p.size typed by.learned sent n.me.node n.kept m.body =
       laws.proposes typed by.learned sent n.me.node n.kept p offered v h.proposer.backed free e in
-      record {
-        goes = record {
-          sends = (subst (λ (group : ℕ). MaySend group typed by.learned sent n.me.node n.kept m.body) size may, rest.goes.sends);
-          backs =
-              rw (append_assoc sent (m ∷ [])
-              (messages_handed_out n.me.node (accepts_of (go_on (proposing p (Some v))).made))) at rest.goes.backs;
-        };
-        size = rest.size;
-      }
+      grind (arith, nat_tests, may, rest, size, append_assoc)
 
   -- a pump
   pub pump_goes : (k : ℕ) → GoesOn (pump k)

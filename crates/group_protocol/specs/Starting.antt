@@ -1,11 +1,8 @@
 -- The start of a node over an acceptor, which counts it.
-use Rattle.std.specs.Prelude.{◌≡◌, ◌↔◌, ℕ, false, Some, Result, Ok, Err, IsErrOf}
-use Rattle.paxos_msg.specs.declared.limits.TheConstants.{LAST_START}
-use Rattle.paxos_msg.specs.declared.record.Change.TheVariants.{Start}
-use Rattle.paxos_acceptor.specs.Follows.{AcceptorState, Follows}
+use Rattle.std.specs.Prelude.{◌≡◌, ℕ, Result, Ok, Err}
+use Rattle.paxos_acceptor.specs.Follows.{AcceptorState, CountsStart}
 use Rattle.paxos_acceptor.specs.Stores.{StoreKind}
 use Rattle.paxos_acceptor.specs.declared.fault.AcceptorFault.{AcceptorFault}
-use Rattle.paxos_acceptor.specs.declared.fault.AcceptorFault.TheVariants.{StartsSpent}
 use Rattle.paxos_acceptor.specs.declared.me.Me.{Me}
 use Rattle.group_protocol.specs.Calls.{node_fault}
 use Rattle.group_protocol.specs.Known.{begun}
@@ -23,8 +20,7 @@ BeginsOver me left (Err f) (Err e) = e ≡ record { fault = node_fault f; store 
 BeginsOver me left (Ok starts) (Err e) = ⊥
 BeginsOver me left (Err f) (Ok p) = ⊥
 
--- The start of a node over an acceptor, which counts one more start. `StartsSpent` is refused
--- exactly if the acceptor was open and had counted 4,294,967,295 starts.
+-- The start of a node over an acceptor, which counts one more start.
 -- Source: Simple 2.5, stable storage.
 -- Allows: an acceptor that has counted a start since it was opened.
 -- Forbids: a node in a start that its acceptor has not saved.
@@ -32,7 +28,5 @@ pub record StartsOver {S : Type 0} (kind : StoreKind S) (me : Me) (acceptor : Ac
     (result : Result (Protocol S) (StartRefused S)) : Type 0 where
   pub answer : Result ℕ AcceptorFault
   pub left : AcceptorState S
-  pub counts : Follows kind (Some Start) acceptor left answer
-  pub spent : IsErrOf answer StartsSpent
-      ↔ ((acceptor.is_closed ≡ false) × (acceptor.kept.starts ≡ LAST_START))
+  pub counts : CountsStart kind acceptor left answer
   pub begins : BeginsOver me left answer result

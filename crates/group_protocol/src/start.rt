@@ -53,8 +53,8 @@ impl<S: Store> Protocol<S> {
     /// `StartsSpent` if it has counted 4,294,967,295 starts, else with `Memory` or `Store`.
     ///
     /// The node has no proposer, and remembers no ballot that refused it. Its next key has the
-    /// serial 1. No start of a node has the number of an earlier one, so that no two of its keys
-    /// have one name. A refusal gives the store back, as the acceptor's `new_start` leaves it.
+    /// serial 1. Over an honest store no start has the number of an earlier one, so that no two of
+    /// its keys have one name. A refusal gives the store back, as `Acceptor::new_start` leaves it.
     ///
     /// `acceptor` is of the node of `config`, and `waiting` is empty, as `Waiting::new` makes it:
     /// a caller makes that room, and all that its machine needs, before the start is saved.

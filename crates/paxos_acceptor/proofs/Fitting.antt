@@ -18,7 +18,6 @@ use Rattle.paxos_acceptor.specs.Answers.{Answer, accept_of, after, place_after, 
 use Rattle.paxos_acceptor.specs.Records.{IsNext, IsRecord}
 use Rattle.paxos_acceptor.proofs.ByCases.{accept_cases, prepare_cases}
 use Rattle.paxos_acceptor.proofs.Ranges.{at_most_itself, promise_in_ranges, raised, vote_in_ranges}
-use Rattle.paxos_acceptor.proofs.Reports.{after_next}
 
 module _ (size upto : ℕ) (b : Ballot) where
   -- votes from a place on are in the bounds, and from each place on that these votes are not below
@@ -54,18 +53,9 @@ module _ (size upto : ℕ) (b : Ballot) where
   -- the place after the last vote is in the bounds, and the votes are below it
   ends : (x : Vote) (xs : List Vote) (low : ℕ) → AreVotes size b low upto (x ∷ xs)
       → (place_after (x ∷ xs) ≤ upto) × (low < place_after (x ∷ xs)) × AreVotes size b low (place_after (x ∷ xs)) (x ∷ xs)
-  ends x [] low h = (
-    omega (arith, h.0.below_upto),
-    omega (arith, h.0.from_low),
-    (raised (at_most_itself b) h.0.from_low (omega arith) h.0, tt),
-  )
+  ends x [] low h = grind arith
   ends x (y ∷ ys) low h =
-      let (within, above, are) = ends y ys (x.place + 1) h.1 in
-      rw (after_next x y ys) (
-        within,
-        omega (arith, above, h.0.from_low),
-        (raised (at_most_itself b) h.0.from_low (omega (arith, above)) h.0, are),
-      )
+      grind (arith, ends y ys (x.place + 1) h.1)
 
 -- the bounds of a part
 part_fits : (size i : ℕ) (b : Ballot) (from : ℕ) (votes : List Vote) → IsBallot size b → IsPlace from → AreVotes size b from 65536 votes

@@ -107,14 +107,5 @@ pub vote_in_ranges : (size : ℕ) (r : Record) (b : Ballot) (s : ℕ) (v : Value
     → IsBallot size b → IsPlace s → IsValue size v → IsRecord size r → IsRecord size (changed r (Ballotted s b v))
 vote_in_ranges size r b s v rises ballot place value h = record {
   starts = h.starts;
-  kept = (
-    ballot,
-    with_one size b r.votes (record { place = s; ballot = b; value = v }) 0 (promise_in_ranges size r b rises ballot h).kept.1 (record {
-      from_low = omega arith;
-      below_upto = omega arith;
-      ballot = ballot;
-      not_above = at_most_itself b;
-      value = value;
-    }),
-  );
+  kept = grind (arith, with_one, promise_in_ranges);
 }

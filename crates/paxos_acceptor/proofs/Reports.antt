@@ -1,6 +1,6 @@
 -- The part that an acceptor answers with reports its record.
-use Rattle.std.proofs.Common.{◌≡◌, ℕ, zero, suc, ◌+◌, ◌-◌, ◌<◌, ◌≤◌, nat_le, nat_lt, true, false, cond, if◌then◌else◌, List, [], ◌∷◌, length, take, None, All, Contains, refl, ◌∙◌, arith, get_or, drop, ap}
-use Rattle.std.proofs.lemmas.Bool.{leb-true, ltb-false}
+use Rattle.std.proofs.Common.{◌≡◌, ℕ, zero, suc, ◌+◌, ◌<◌, ◌≤◌, nat_le, nat_lt, true, false, if◌then◌else◌, List, [], ◌∷◌, length, take, None, All, Contains, refl, ◌∙◌, arith, get_or, drop, ap}
+use Rattle.std.proofs.lemmas.Bool.{ltb-false}
 use Rattle.std.proofs.lemmas.Bool.Decides.{nat_tests}
 use Rattle.std.proofs.lemmas.List.{take_all}
 use Rattle.std.proofs.lemmas.List.Elements.{All-cons, All-contains, All-contains_itself, All-filter, All-take, filter_passes}
@@ -60,25 +60,17 @@ said_from (x ∷ xs) from s h = from_step x xs from s h (said_from xs from s h)
 above_from : (xs : List Vote) (from s : ℕ) → AreAbove s xs → AreAbove s (votes_from from xs)
 above_from [] from s h = tt
 above_from (x ∷ xs) from s h =
-    elim (nat_le from x.place) as (λ t. AreAbove s (cond t (x ∷ votes_from from xs) (votes_from from xs))) [
-      | true ↦ (h.0, above_from xs from s h.1)
-      | false ↦ above_from xs from s h.1
-    ]
+    grind (arith, above_from xs from s h.1)
 
 ascending_from : (xs : List Vote) (from : ℕ) → IsAscending xs → IsAscending (votes_from from xs)
 ascending_from [] from h = tt
 ascending_from (x ∷ xs) from h =
-    elim (nat_le from x.place) as (λ t. IsAscending (cond t (x ∷ votes_from from xs) (votes_from from xs))) [
-      | true ↦ (above_from xs from x.place h.0, ascending_from xs from h.1)
-      | false ↦ ascending_from xs from h.1
-    ]
+    grind (arith, above_from xs from x.place h.0, ascending_from xs from h.1)
 
 -- each is at the place or after it
 places_from : (xs : List Vote) (from : ℕ) (vote : Vote) → Contains (votes_from from xs) vote → from ≤ vote.place
 places_from xs from vote h =
-    leb-true from vote.place
-    (All-contains (λ x. nat_le from x.place ≡ true) (votes_from from xs) vote
-    (filter_passes (λ x. nat_le from x.place) xs) h)
+    grind (arith, filter_passes)
 
 -- ---- the first of them
 
@@ -101,9 +93,7 @@ none_above (x ∷ xs) p s h above = none_step x xs s (omega (arith, above.0)) (n
 -- the place after the last vote is that of the votes after the first one
 pub after_next : (x y : Vote) (ys : List Vote) → place_after (x ∷ (y ∷ ys)) ≡ place_after (y ∷ ys)
 after_next x y ys =
-    let long : suc (suc (length ys)) - 1 ≡ suc (length ys) = omega arith in
-    let short : suc (length ys) - 1 ≡ length ys = omega arith in
-    rw (long, short) refl
+    grind arith
 
 -- before the place after the last of them, the first votes say what all say
 cut : (n : ℕ) (xs : List Vote) (s : ℕ) → IsAscending xs → s < place_after (take (suc n) xs)

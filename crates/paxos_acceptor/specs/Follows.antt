@@ -72,9 +72,9 @@ pub record Answers {S : Type 0} (kind : StoreKind S) (answer : Answer)
 -- The acceptor after a call that counts one more start: `Ok` says how many there are then. It is
 -- `StartsSpent` exactly if the acceptor was open and had counted as many as can be.
 -- Forbids: A start whose number was given before.
-pub record CountsStart {S : Type 0} (kind : StoreKind S) (acceptor : Mut (AcceptorState S))
+pub record CountsStart {S : Type 0} (kind : StoreKind S) (old new : AcceptorState S)
     (result : Result ℕ AcceptorFault) : Type 0 where
-  pub says : IfOk result (λ starts. starts ≡ acceptor.exit.now.kept.starts)
-  pub follows : Follows kind (Some Start) acceptor.entry.now acceptor.exit.now result
+  pub says : IfOk result (λ starts. starts ≡ new.kept.starts)
+  pub follows : Follows kind (Some Start) old new result
   pub spent : IsErrOf result StartsSpent
-      ↔ ((acceptor.entry.now.is_closed ≡ false) × (acceptor.entry.now.kept.starts ≡ LAST_START))
+      ↔ ((old.is_closed ≡ false) × (old.kept.starts ≡ LAST_START))

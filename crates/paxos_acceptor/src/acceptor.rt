@@ -162,7 +162,7 @@ impl<S: Store> Acceptor<S> {
     ///
     /// `Follows` says what each answer leaves in the acceptor and its store.
     pub fn new_start(&mut self) -> Result<u32, AcceptorFault>
-        ensures counts { CountsStart S.kind self result }
+        ensures counts { CountsStart S.kind self.old self.new result }
         ensures others { FailsOnlyWith (AcceptorFault.Closed ∷ AcceptorFault.StartsSpent
             ∷ AcceptorFault.Memory ∷ AcceptorFault.Store ∷ []) result }
     {

@@ -1,7 +1,7 @@
 -- There is an input that was chosen: what was sent determines at each place what is chosen there,
 -- or that nothing is. As at most one value is chosen at a place, there is one input alone, with
 -- which that of any chosen values begins.
-use Rattle.std.proofs.Common.{◌&&◌, ◌==◌, ◌≡◌, ℕ, zero, suc, ◌+◌, ◌*◌, ◌<◌, ◌≤◌, ◌⊎◌, Bool, true, false, [], ◌∷◌, Contains, inl, inr, ap, arith, List, length, slice_get, Some, refl, subst, sym, ◌++◌, ◌∙◌}
+use Rattle.std.proofs.Common.{◌&&◌, ◌==◌, ◌≡◌, ℕ, zero, suc, ◌+◌, ◌*◌, ◌<◌, ◌≤◌, ◌⊎◌, ◌↔◌, Bool, true, false, [], ◌∷◌, Contains, inl, inr, arith, List, length, slice_get, Some, refl, sym, ◌++◌}
 use Rattle.std.proofs.lemmas.Bool.{cases_lt}
 use Rattle.std.specs.List.{list_any}
 use Rattle.std.proofs.lemmas.List.Folds.{list_any_at}
@@ -46,36 +46,30 @@ is_accepted m x = (m.sender == x.sender) && same_accepted m.body x.body
 
 -- such bodies are one
 same_accepted_is : Laws → (a b : Body) → same_accepted a b ≡ true → a ≡ b
-same_accepted_is laws (Accepted b s v) (Accepted c t u) e =
-    let exact = laws.tests_are_exact.ensures in
-    grind (arith, nat_tests, exact.same, exact.same_values)
-same_accepted_is laws a b e = absurd cc
+same_accepted_is laws a b e = grind (arith, nat_tests)
 
 -- whether each node has sent that it accepted the value
 abbrev acceptors : Sent → Ballot → ℕ → Value → ℕ → Bool
 acceptors sent b s v i = list_any (is_accepted (accepted i b s v)) sent
 
-module _ (laws : Laws) (sent : Sent) (b : Ballot) (s : ℕ) (v : Value) (i : ℕ) where
-  -- where the test holds, it has
-  acceptors_sent : acceptors sent b s v i ≡ true → Contains sent (accepted i b s v)
-  acceptors_sent h = Contains-from_any is_one (accepted i b s v) sent h
-    where
-      is_one : (m x : Msg) → is_accepted m x ≡ true → m ≡ x
-      is_one m x e = grind (arith, nat_tests, same_accepted_is laws m.body x.body)
-
-  -- where it has, the test holds
-  sent_acceptors : Contains sent (accepted i b s v) → acceptors sent b s v i ≡ true
-  sent_acceptors (k, low, e) = list_any_at (is_accepted (accepted i b s v)) sent k (accepted i b s v) low (rw e itself)
-    where
-      itself : is_accepted (accepted i b s v) (accepted i b s v) ≡ true
-      itself = grind (arith, nat_tests, laws.tests_are_exact.ensures.same, laws.tests_are_exact.ensures.same_values)
+-- the test holds where it has
+acceptors_sent : Laws → (sent : Sent) (b : Ballot) (s : ℕ) (v : Value) (i : ℕ)
+    → (acceptors sent b s v i ≡ true) ↔ Contains sent (accepted i b s v)
+acceptors_sent laws sent b s v i = (
+  Contains-from_any (λ (m x : Msg) (e : is_accepted m x ≡ true). grind (arith, nat_tests, same_accepted_is laws m.body x.body))
+      (accepted i b s v) sent,
+  λ h.
+      list_any_at (is_accepted (accepted i b s v)) sent h.0 (accepted i b s v) h.1
+      (rw h.2 (grind (arith, nat_tests, laws.tests_are_exact.ensures.same, laws.tests_are_exact.ensures.same_values))),
+)
 
 -- a value is chosen by a ballot, or it isn't
 chosen_decided : Laws → (size : ℕ) (sent : Sent) (b : Ballot) (s : ℕ) (v : Value) → Decided (IsChosenBy size sent b s v)
 chosen_decided laws size sent b s v = elim (cases_lt size (2 * count_of (acceptors sent b s v) size)) [
-  | inl majority ↦ inl (acceptors sent b s v, majority, acceptors_sent laws sent b s v)
+  | inl majority ↦ inl (acceptors sent b s v, majority, λ i. (acceptors_sent laws sent b s v i).0)
   | inr few ↦ inr (λ h.
-      omega (arith, few, h.1, count_grows h.0 (acceptors sent b s v) size (λ i member. sent_acceptors laws sent b s v i (h.2 i member))))
+      let grows = count_grows h.0 (acceptors sent b s v) size (λ i member. (acceptors_sent laws sent b s v i).1 (h.2 i member)) in
+      omega (arith, few, h.1, grows))
 ]
 
 -- what is chosen was accepted in a message
@@ -88,13 +82,7 @@ chosen_was_accepted h1 size sent b s v h2 = grind (arith, nat_tests)
 -- a thing in a list is found, or the list has none
 find : {X : Type 0} (P : X → Type 0) → ((x : X) → Decided (P x)) → (xs : List X) → ((x : X) × P x) ⊎ ((x : X) → Contains xs x → P x → ⊥)
 find P each [] = inr (λ x h is. none_in x h)
-find P each (x ∷ xs) = elim (each x) [
-  | inl here ↦ inl (x, here)
-  | inr none ↦ elim (find P each xs) [
-    | inl found ↦ inl found
-    | inr later ↦ inr (λ y h is. elim (in_cases x xs y h) [ inl e ↦ none (subst P (sym e) is) | inr there ↦ later y there is ])
-  ]
-]
+find P each (x ∷ xs) = grind (arith, each x, find P each xs)
 
 -- the body accepts a value under a ballot by which that is chosen at the place
 abbrev Accepts : ℕ → Sent → ℕ → Body → Type 0
@@ -137,10 +125,7 @@ places (m ∷ ms) = suc (place_of m.body + places ms)
 -- the place of each accepted value is below it
 below_places : (sent : Sent) (i : ℕ) (b : Ballot) (s : ℕ) (v : Value) → Contains sent (accepted i b s v) → s < places sent
 below_places [] i b s v h = omega (arith, h.1)
-below_places (m ∷ ms) i b s v h = elim (in_cases m ms (accepted i b s v) h) [
-  | inl e ↦ let at : place_of m.body ≡ s = ap (λ (x : Msg). place_of x.body) e in omega arith
-  | inr later ↦ let below : s < places ms = below_places ms i b s v later in omega arith
-]
+below_places (m ∷ ms) i b s v h = grind (arith, in_cases m ms (accepted i b s v) h, below_places ms i b s v)
 
 -- Values as long as there is one for each place, up to the first place for which there is none.
 record UpToGap (P : ℕ → Value → Type 0) : Type 0 where
@@ -148,21 +133,14 @@ record UpToGap (P : ℕ → Value → Type 0) : Type 0 where
   each : (s : ℕ) (v : Value) → slice_get values s ≡ Some v → P s v
   over : (v : Value) → P (length values) v → ⊥
 
--- one more in front
-in_front : (P : ℕ → Value → Type 0) (v : Value) → P 0 v → UpToGap (λ s. P (suc s)) → UpToGap P
-in_front P v here later = record { values = v ∷ later.values; each = each; over = later.over }
-  where
-    each : (s : ℕ) (w : Value) → slice_get (v ∷ later.values) s ≡ Some w → P s w
-    each zero w e = let same : v ≡ w = cc in rw (← same) here
-    each (suc s) w e = later.each s w e
-
 -- there are such values where places below a number alone have one
 up_to_gap : (P : ℕ → Value → Type 0) → ((s : ℕ) → ((v : Value) × P s v) ⊎ ((v : Value) → P s v → ⊥)) → (n : ℕ)
     → ((s : ℕ) (v : Value) → P s v → s < n) → UpToGap P
 up_to_gap P at zero low = record { values = []; each = λ s v e. absurd cc; over = λ v h. omega (arith, low 0 v h) }
 up_to_gap P at (suc n) low = elim (at 0) [
-  | inl found ↦
-      in_front P found.0 found.1 (up_to_gap (λ s. P (suc s)) (λ s. at (suc s)) n (λ s v h. omega (arith, low (suc s) v h)))
+  | inl (v, here) ↦
+      let later = up_to_gap (λ s. P (suc s)) (λ s. at (suc s)) n (λ s v h. omega (arith, low (suc s) v h)) in
+      record { values = v ∷ later.values; each = λ s w e. grind (arith, nat_tests); over = later.over }
   | inr none ↦ record { values = []; each = λ s v e. absurd cc; over = none }
 ]
 
@@ -189,17 +167,9 @@ module _ (laws : Laws) (size : ℕ) (sent : Sent) (records : ℕ → Record) (gr
   few_chosen : (values all : List Value) → AreChosen size sent values
       → ((v : Value) → IsChosen size sent (length all) v → ⊥) → length values ≤ length all
   few_chosen values all h over = elim (cases_lt (length all) (length values)) [
-    | inl less ↦
-        let there = get_there values (length all) less in
-        absurd (over there.0 (h.chosen (length all) there.0 there.1))
+    | inl less ↦ let (v, e) = get_there values (length all) less in absurd (over v (h.chosen (length all) v e))
     | inr high ↦ high
   ]
-
-  -- the input of more values begins with that of fewer
-  input_longer : (values all : List Value) → IsPrefix values all → IsPrefix (input_of values) (input_of all)
-  input_longer values all h =
-      let more = laws.input_grows.ensures.bytes values h.rest in
-      record { rest = more.0; whole = ap input_of h.whole ∙ more.1 }
 
   -- the input begins with that of any chosen values
   chosen_begins : (values : List Value) (x : List ℕ) → AreChosen size sent values → IsInput size sent x → IsPrefix (input_of values) x
@@ -207,22 +177,18 @@ module _ (laws : Laws) (size : ℕ) (sent : Sent) (records : ℕ → Record) (gr
       let begins : IsPrefix values input.values = agree_prefix values input.values
       (λ s v w e f. laws.agreement.ensures.one_value size s sent records v w grew (h.chosen s v e) (input.chosen.chosen s w f))
       (few_chosen values input.values h input.over) in
-      subst (λ (y : List ℕ). IsPrefix (input_of values) y) (sym input.bytes) (input_longer values input.values begins)
-
-  -- of two inputs each begins the other
-  begins_other : (x y : List ℕ) → IsInput size sent x → IsInput size sent y → IsPrefix x y
-  begins_other x y h1 h2 = grind (arith, nat_tests, chosen_begins)
-
-  -- there is one input alone
-  one_input : (x y : List ℕ) → IsInput size sent x → IsInput size sent y → x ≡ y
-  one_input x y h k = laws.prefixes_are_ordered.ensures.both x y (begins_other x y h k) (begins_other y x k h)
+      grind (arith, laws.input_grows.ensures.bytes values begins.rest)
 
   -- it begins with that of less that was sent
   input_later : (less : Sent) → ((s : ℕ) (v : Value) → IsChosen size less s v → IsChosen size sent s v)
       → (x y : List ℕ) → IsInput size less x → IsInput size sent y → IsPrefix x y
   input_later less stays x y h k =
-      subst (λ (z : List ℕ). IsPrefix z y) (sym h.bytes)
-      (chosen_begins h.values y (record { chosen = λ s v e. stays s v (h.chosen.chosen s v e) }) k)
+      rw h.bytes (chosen_begins h.values y (record { chosen = λ s v e. stays s v (h.chosen.chosen s v e) }) k)
+
+  -- there is one input alone, as of two each begins the other
+  one_input : (x y : List ℕ) → IsInput size sent x → IsInput size sent y → x ≡ y
+  one_input x y h k =
+      laws.prefixes_are_ordered.ensures.both x y (input_later sent (λ s v e. e) x y h k) (input_later sent (λ s v e. e) y x k h)
 
 pub returns : goal.returns
 returns c = record {

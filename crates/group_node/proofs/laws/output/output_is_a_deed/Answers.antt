@@ -1,5 +1,5 @@
 -- A run of a node's machine and the release of a byte are events of its group.
-use Rattle.std.proofs.Common.{◌≡◌, ℕ, ◌+◌, ◌↔◌, List, ◌∷◌, slice_get, Option, Some, sym, ◌∙◌, ap, arith, zero, suc, [], drop, subst}
+use Rattle.std.proofs.Common.{◌≡◌, ℕ, ◌+◌, ◌↔◌, List, ◌∷◌, slice_get, Some, sym, ◌∙◌, ap, arith, zero, suc, [], drop, subst}
 use Rattle.std.proofs.lemmas.Bool.Decides.{nat_tests}
 use Rattle.pcode_file.specs.Parts.{Parts}
 use Rattle.pcode_machine.specs.Configuration.{Configuration}
@@ -10,7 +10,7 @@ use Rattle.paxos_learner.specs.Input.{learned_input}
 use Rattle.group_node.specs.Console.{offered}
 use Rattle.group_protocol.specs.Known.{Known}
 use Rattle.group_protocol.specs.WaitingKeys.{waiting_keys}
-use Rattle.group_node.specs.World.{after_release, Seat, seat_of, Up, MakesSteps}
+use Rattle.group_node.specs.World.{Seat, seat_of, Up, MakesSteps}
 use Rattle.group_node.proofs.Exact.{There}
 use Rattle.group_node.proofs.Seats.{seat_alone, seat_here}
 use Rattle.group_node.proofs.laws.output.output_is_a_deed.Goals as goal
@@ -58,15 +58,11 @@ returns-clause-release c w n m k byte rest console sits waits =
     let x : List ℕ = learned_input n.learner.learned in
     let now : Configuration = after_steps w.program x m in
     let first : slice_get now.output k ≡ Some byte = first_waits now.output k byte rest waits in
-    let next : Seat = seat_of n now (k + 1) (offered console k byte) in
     record {
       was = up_of n now k;
       from = ap (λ (s : Seat). s.up) sits.seat;
-      left =
-          seat_here w n.me.node next
-          ∙ sym (ap (λ (o : Option ℕ). after_release (seat_of n now k console) (up_of n now k) o) first)
-          ∙ ap (λ (s : Seat). after_release s (up_of n now k) (slice_get now.output k)) (sym sits.seat);
-      rest = seat_alone w n.me.node next;
+      left = grind arith;
+      rest = seat_alone w n.me.node (seat_of n now (k + 1) (offered console k byte));
     }
 
 pub returns-clause-few : goal.returns-clause-few

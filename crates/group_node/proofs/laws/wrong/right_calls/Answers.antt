@@ -1,6 +1,6 @@
 use Rattle.std.proofs.lemmas.List.Elements.{All-from_recursion}
 use Rattle.std.proofs.lemmas.Bool.Decides.{nat_tests}
-use Rattle.std.proofs.Common.{◌≡◌, List, [], ◌∷◌, ◌++◌, Contains, Some, None, Option, IfSome, append-nil, inl, inr, refl, sym, subst, arith}
+use Rattle.std.proofs.Common.{◌≡◌, List, [], ◌∷◌, ◌++◌, Contains, Some, None, Option, IfSome, append-nil, inl, inr, refl, arith}
 use Rattle.std.specs.Ordering.{nat_cmp}
 use Rattle.std.specs.List.{AllByRecursion as EachOf}
 use Rattle.std.specs.FinMap.{FinMap, empty, insert}
@@ -54,15 +54,12 @@ saves sent c may = calls (up_learned empty) sent [] (Some c) [] [] [] may refl t
 abbrev one : FinMap nat_cmp Value
 one = insert empty 0 (fortieth 65)
 
-read_40 : keys_in_order (front_values one) ≡ ninth_key 40 65 ∷ []
-read_40 = rw (entries_one 0 (fortieth 65), get_here empty 0 (fortieth 65)) refl
-
 pub returns : goal.returns
 returns c = record {
   ticks = λ up. calls up [] [] None [] [] up.waiting tt (append-nil up.waiting) tt;
   key_leaves =
       calls (up_as one [] 0 (ninth_key 40 65 ∷ ninth_key 41 66 ∷ [])) [] [] None [] (ninth_key 40 65 ∷ []) (ninth_key 41 66 ∷ []) tt refl
-      (subst (λ (ks : List Key). Contains ks (ninth_key 40 65)) (sym read_40) (0, omega arith, refl), tt);
+      (rw (entries_one 0 (fortieth 65), get_here empty 0 (fortieth 65)) (0, omega arith, refl), tt);
   types = record {
     key = ninth_key 40 65;
     node = refl;

@@ -1,4 +1,4 @@
-use Rattle.std.proofs.Common.{◌≤◌, ◌+◌, ◌≡◌, ◌∙◌, ℕ, zero, suc, List, [], ◌∷◌, slice_get, Some, None, refl, sym, ap, subst, arith}
+use Rattle.std.proofs.Common.{◌≤◌, ◌+◌, ◌≡◌, ℕ, zero, suc, List, [], ◌∷◌, refl, ap, arith}
 use Rattle.std.proofs.lemmas.Bool.Decides.{nat_tests}
 use Rattle.std.specs.Ordering.{nat_cmp}
 use Rattle.std.specs.FinMap.{FinMap, empty, insert}
@@ -23,23 +23,18 @@ above = insert empty 700 (fortieth 65)
 
 -- a pending read waits at an empty input
 no_byte : (x : List ℕ) → x ≡ [] → (d : Configuration) → ¬ Step no_code x (reads_on 0) d
-no_byte x e d (f, there, (old, b, live, here, is)) =
-    let none : None ≡ Some b = sym (ap (λ (xs : List ℕ). slice_get xs 0) e) ∙ here in
-    cc
+no_byte x e d (f, there, (old, b, live, here, is)) = grind arith
 
 -- a step reads one byte at most
 few_bytes : goal.After-step_only_adds → (x : List ℕ) (n : ℕ) (c d : Configuration) → MakesSteps no_code x n c d → d.read ≤ c.read + n
 unfolding MakesSteps
 few_bytes laws x zero c d h = let same = ap (λ (c : Configuration). c.read) h in omega arith
-few_bytes laws x (suc n) c d (b, before, last) =
-    let most = few_bytes laws x n c b before in
-    let one = (laws.step_only_adds.ensures.read no_code x b d ((laws.step_is_transition.ensures.step no_code x b d).0 last)).1 in
-    omega arith
+few_bytes laws x (suc n) c d (b, before, last) = grind (arith, few_bytes laws x n c b before)
 
 -- three steps read three bytes
 three_steps : (x : List ℕ) → x ≡ 65 ∷ 66 ∷ 67 ∷ [] → MakesSteps no_code x 3 (reads_on 0) (reads_on 3)
 unfolding MakesSteps
-three_steps x e = subst (λ (xs : List ℕ). MakesSteps no_code xs 3 (reads_on 0) (reads_on 3)) (sym e) (
+three_steps x e = rw e (
   reads_on 2,
   (
     reads_on 1,

@@ -1,5 +1,5 @@
 use Rattle.std.proofs.Common.{◌≡◌, ℕ, List, [], ◌∷◌, Some, None, ap, arith}
-use Rattle.std.specs.FinMap.{empty, get, get-empty}
+use Rattle.std.specs.FinMap.{empty, get-empty}
 use Rattle.std.specs.Ordering.{nat_cmp}
 use Rattle.pcode_machine.specs.Configuration.{Configuration, configuration_of, unframed}
 use Rattle.pcode_machine.specs.Step.{Step}
@@ -15,9 +15,7 @@ no_frame : (x : List ℕ) (d : Configuration) → ¬ Step no_code x (configurati
 no_frame x d (f, there, acts) = let none : None ≡ Some f = there in cc
 
 pub returns-clause-learns : goal.returns-clause-learns
-returns-clause-learns c h =
-    let none : get (empty {X = Value} {R = nat_cmp}) 700 ≡ None = get-empty nat_cmp 700 in
-    grind (arith, get_here empty 700 (fortieth 65))
+returns-clause-learns c h = grind (arith, get-empty {X = Value} nat_cmp 700, get_here empty 700 (fortieth 65))
 
 pub returns-clause-writes : goal.returns-clause-writes
 returns-clause-writes c h =

@@ -1,14 +1,14 @@
 use Rattle.std.proofs.lemmas.List.{append_cancel_left}
 use Rattle.std.proofs.lemmas.Option.{same_Some}
-use Rattle.std.proofs.Common.{◌≡◌, ℕ, List, [], ◌∷◌, ◌++◌, None, Option, refl, sym, ap, subst, arith}
+use Rattle.std.proofs.Common.{◌≡◌, ℕ, List, [], ◌∷◌, ◌++◌, Option, refl, sym, ap, arith}
 use Rattle.std.specs.Ordering.{nat_cmp}
 use Rattle.std.specs.FinMap.{empty, get, get-empty}
 use Rattle.paxos_msg.specs.declared.message.Body.TheVariants.{Prepare, Promise, Accepted, Refused, Submit, Tell}
 use Rattle.paxos_msg.specs.declared.value.Value.{Value}
-use Rattle.paxos_msg.specs.Batches.{Msg, Sent, Body, MaySend, MaySendAll}
+use Rattle.paxos_msg.specs.Batches.{Sent, Body, MaySend, MaySendAll}
 use Rattle.paxos_msg.specs.Messages.{messages_of}
 use Rattle.group_node.specs.Deeds as deed
-use Rattle.group_node.specs.World.{Seat, Up, WorldStep}
+use Rattle.group_node.specs.World.{Seat, WorldStep}
 use Rattle.group_node.specs.WrongSteps.{ballot_by, fortieth, kept_third, nine_sent, ninth_key, sent_by_ninth, seventh_proposes, up_learned}
 use Rattle.group_node.proofs.laws.wrong.wrong_sends.Goals as goal
 
@@ -20,23 +20,18 @@ nothing = get (empty {R = nat_cmp})
 first_sent : (sent : Sent) (body : Body) (bodies : List Body) → sent_by_ninth body ∷ [] ≡ messages_of 9 bodies
     → MaySendAll 9 [] nothing sent 9 kept_third bodies → MaySend 9 [] nothing sent 9 kept_third body
 first_sent sent body [] e may = absurd cc
-first_sent sent body (b ∷ more) e may =
-    let same : sent_by_ninth body ≡ sent_by_ninth b = cc in
-    subst (MaySend 9 [] nothing sent 9 kept_third) (sym (ap (λ (m : Msg). m.body) same)) may.0
+first_sent sent body (b ∷ more) e may = grind arith
 
 one_sent : (sent : Sent) (body : Body) → WorldStep (nine_sent sent) 9 deed.Tick (nine_sent (sent ++ sent_by_ninth body ∷ []))
     → MaySend 9 [] nothing sent 9 kept_third body
 one_sent sent body h =
     let same = same_Some h.now (up_learned empty) (sym (ap (λ (s : Seat). s.up) h.left)) in
-    first_sent sent body h.bodies (append_cancel_left sent _ _ h.rest.sent)
-    (subst (λ (u : Up). MaySendAll 9 [] (get u.learned) sent 9 kept_third h.bodies) same h.sends)
+    first_sent sent body h.bodies (append_cancel_left sent _ _ h.rest.sent) (rw same at h.sends)
 
 pub returns : goal.returns
 returns c = record {
   tells_unlearned = λ h.
-      let there = one_sent [] (Tell 700 (fortieth 65)) h in
-      let none : nothing 700 ≡ None = get-empty nat_cmp 700 in
-      cc;
+      let there = one_sent [] (Tell 700 (fortieth 65)) h in cc (get-empty {X = Value} nat_cmp 700);
   submits_untyped = λ h. let (k, low, at) = (one_sent [] (Submit (fortieth 65)) h).known (ninth_key 40 65) (0, omega arith, refl) in
       omega arith;
   prepares_for_another = λ h. let same = (one_sent [] (Prepare (ballot_by 7 40) 700) h).0 in omega arith;

@@ -1,12 +1,10 @@
 -- A node that has started: it works, and its store had no plan.
-use Rattle.std.proofs.Common.{◌≡◌, ℕ, false, None, Some, Ok, Err, Result, arith, rules}
+use Rattle.std.proofs.Common.{◌≡◌, false, None, Ok, arith, rules}
 use Rattle.std.proofs.lemmas.Bool.Decides.{nat_tests}
-use Rattle.paxos_msg.specs.declared.record.Change.TheVariants.{Start}
-use Rattle.paxos_acceptor.specs.Follows.{AcceptorState, Follows}
+use Rattle.paxos_acceptor.specs.Follows.{AcceptorState}
 use Rattle.paxos_acceptor.specs.Stores.{StoreKind}
-use Rattle.paxos_acceptor.specs.declared.fault.AcceptorFault.{AcceptorFault}
 use Rattle.paxos_acceptor.specs.declared.me.Me.{Me}
-use Rattle.group_protocol.specs.Starting.{BeginsOver, StartsOver}
+use Rattle.group_protocol.specs.Starting.{StartsOver}
 use Rattle.group_protocol.specs.States.{Protocol}
 use Rattle.group_node.proofs.node.Node.start.Goals as goal
 
@@ -17,14 +15,10 @@ record Begun {S : Type 0} (kind : StoreKind S) (a : AcceptorState S) (p : Protoc
   no_plan : (kind.state p.store).plan ≡ None
   quiet : (kind.state p.store).faults ≡ (kind.state a.store).faults
 
-begun_by : {S : Type 0} (kind : StoreKind S) (me : Me) (a left : AcceptorState S) (p : Protocol S) (answer : Result ℕ AcceptorFault)
-    → Follows kind (Some Start) a left answer → BeginsOver me left answer (Ok p) → a.is_closed ≡ false → Begun kind a p
-begun_by kind me a left p (Ok starts) h is was = grind (arith, nat_tests)
-begun_by kind me a left p (Err f) h is was = absurd is
-
 begun : {S : Type 0} (kind : StoreKind S) (me : Me) (a : AcceptorState S) (p : Protocol S) → StartsOver kind me a (Ok p)
     → a.is_closed ≡ false → Begun kind a p
-begun kind me a p h = begun_by kind me a h.left p h.answer h.counts h.begins
+begun kind me a p h was =
+    let follows = h.counts.follows in let begins = h.begins in grind (arith, nat_tests)
 
 pub returns-clause-fresh : goal.returns-clause-fresh
 returns-clause-fresh g c =
@@ -38,5 +32,4 @@ returns-clause-fresh g c =
 
 pub returns-clause-plan : goal.returns-clause-plan
 returns-clause-plan g c =
-    let h = begun _ _ _ _ c.in_ok-protocol.ensures.over c.in-Ok.ensures.opened.is_open in
-    grind (arith, nat_tests, h.unplanned, h.no_plan, h.quiet, c.in-Ok.ensures.plan)
+    grind (arith, begun _ _ _ _ c.in_ok-protocol.ensures.over c.in-Ok.ensures.opened.is_open)

@@ -1,9 +1,9 @@
-use Rattle.std.proofs.Common.{◌+◌, refl, sym, arith}
+use Rattle.std.proofs.Common.{◌+◌, [], ◌∷◌, refl, sym, arith}
 use Rattle.pcode_machine.specs.Turns.{AreQuiet}
 use Rattle.paxos_learner.specs.Input.{learned_input}
 use Rattle.group_node.specs.declared.player.Player.{Player}
 use Rattle.group_node.specs.Player.{Advances}
-use Rattle.group_node.proofs.Exact.{Laws, advanced, advances, to_advanced, makes-wrote, exact_idle, exact_fed, halts_waiting, halts_ended}
+use Rattle.group_node.proofs.Exact.{Laws, advanced, to_advanced, makes-wrote, exact_idle, exact_fed, halts_waiting, halts_ended}
 use Rattle.group_node.proofs.player.Player.play_on.Goals as goal
 use Rattle.group_node.proofs.player.Player.play_on.Goals.{After-from}
 
@@ -17,9 +17,7 @@ ran c = record c.args.self.now { machine = c.run-made.new.self; steps = c.args.s
 ran_on : (c : After-from)
     → AreQuiet c.args.self.now.machine.program c.run-made.result.0 c.args.self.now.machine.state c.run-made.new.self.state
     → Advances (learned_input c.args.learner.now.learned) c.run-made.result.0 c.args.self.now (ran c)
-ran_on c quiet =
-    advances _ c.quiet_steps_lead_on.ensures c.requires.exact quiet c.run-made.ensures.program refl
-    (omega (arith, c.from.ensures)) refl refl
+ran_on c quiet = grind arith
 
 pub returns-in-Ended-clause-plays : goal.returns-in-Ended-clause-plays
 returns-in-Ended-clause-plays c =
@@ -37,16 +35,8 @@ unfolding returns-in-Wrote-clause-plays
 returns-in-Wrote-clause-exact c =
     let before = (goal.at.returns-in-Wrote-clause-exact c).After-from in
     let h = rw c.in-Wrote.is at c.run-made.ensures.pauses in
-    rw c.write.ensures (exact_idle (laws before) (returns-in-Wrote-clause-plays c).2.exact c.requires.room (record {
-      program = c.run-made.ensures.program;
-      made = makes-wrote h.5;
-      waits = refl;
-      steps = omega (arith, h.2, c.from.ensures);
-      read = omega arith;
-      released = refl;
-      short = omega arith;
-      one = omega arith;
-    }))
+    rw c.write.ensures (exact_idle {wrote = c.in-Wrote.byte ∷ []} (laws before) (returns-in-Wrote-clause-plays c).2.exact c.requires.room
+    (grind (arith, makes-wrote h.5, c.run-made.ensures.program, h.2, c.from.ensures)))
 
 pub returns-in-Some-clause-plays : goal.returns-in-Some-clause-plays
 returns-in-Some-clause-plays c =

@@ -1,5 +1,5 @@
 -- How many packets a call sends.
-use Rattle.std.proofs.Common.{ℕ, zero, suc, ◌+◌, ◌≤◌, Bool, if◌then◌else◌, List, [], ◌∷◌, ◌++◌, length, Option, None, arith}
+use Rattle.std.proofs.Common.{ℕ, zero, suc, ◌+◌, ◌≤◌, List, [], ◌∷◌, ◌++◌, length, Option, arith}
 use Rattle.std.specs.Ordering.{nat_cmp}
 use Rattle.std.specs.FinMap.{FinMap}
 use Rattle.std.specs.List.{filter_map, range_with_len}
@@ -9,11 +9,11 @@ use Rattle.std.proofs.lemmas.Bool.Decides.{nat_tests}
 use Rattle.paxos_msg.specs.declared.ballot.Ballot.{Ballot}
 use Rattle.paxos_msg.specs.declared.value.Value.{Value}
 use Rattle.paxos_msg.specs.Batches.{Vote}
-use Rattle.paxos_proposer.specs.Proposer.{next_value, Proposer}
+use Rattle.paxos_proposer.specs.Proposer.{Proposer}
 use Rattle.group_protocol.specs.Known.{Known}
 use Rattle.group_protocol.specs.ProposerRows.{offer_after, on_promise, on_submit, prepare_from}
 use Rattle.group_protocol.specs.Tick.{accepts_again, asks, prepares_again}
-use Rattle.group_protocol.specs.Pump.{accepts_of, Proposals, propose, pump}
+use Rattle.group_protocol.specs.Pump.{accepts_of, Proposals, pump}
 use Rattle.group_protocol.proofs.ByCases.{by_offer, by_part, by_tick}
 use Rattle.group_protocol.proofs.laws.fitting.packets_are_few.Goals as goal
 
@@ -38,16 +38,11 @@ both_few a b xs ys h k = omega (arith, length-append xs ys)
 
 -- ---- proposals
 
--- a proposal, if there is one, and what goes on after it
-propose_few : (p : Proposer) (o : Option Value) (go_on : Proposer → Proposals) (most : ℕ)
-    → ((q : Proposer) → length (go_on q).made ≤ most) → length (propose p o go_on).made ≤ suc most
-propose_few p o go_on most few = grind (arith, nat_tests)
-
 -- a pump
 pump_few : (n : ℕ) (p : Proposer) → length (pump n p).made ≤ n
 unfolding pump
 pump_few zero p = omega arith
-pump_few (suc n) p = propose_few p (next_value p None) (pump n) n (pump_few n)
+pump_few (suc n) p = grind (arith, nat_tests, pump_few n)
 
 -- the Accepts of a pump of 16
 pumped_few : (p : Proposer) → length (accepts_of (pump 16 p).made) ≤ 16
@@ -73,19 +68,15 @@ submit_few n v = grind (arith, nat_tests, by_offer, both_few, pumped_few, accept
 
 -- ---- tick
 
--- none, or these
-if_few : {X : Type 0} (most : ℕ) (t : Bool) (xs : List X) → length xs ≤ most → length (if t then [] else xs) ≤ most
-if_few most t xs few = grind (arith, nat_tests)
-
 -- a Prepare for each node at most
 prepares_few : (p : Proposer) → p.size ≤ 9 → length (prepares_again p) ≤ 9
-prepares_few p small = grind (arith, nat_tests, if_few, places_few)
+prepares_few p small = grind (arith, nat_tests, places_few)
 
 -- the Accepts that are sent again
 again_few : (learned : FinMap nat_cmp Value) (p : Proposer) → length (accepts_again learned p) ≤ 16
 again_few learned p = grind (arith, nat_tests)
 
--- it, and the Ask
+-- what a node asks last
 asks_few : (n : Known) → length (asks n) ≤ 2
 asks_few n = grind (arith, nat_tests)
 

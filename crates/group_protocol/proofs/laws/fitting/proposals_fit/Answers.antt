@@ -1,13 +1,11 @@
 -- The lemmas of `PacketsFit`, with the laws of proposers.
+use Rattle.std.proofs.Common.{arith}
 use Rattle.group_protocol.proofs.PacketsFit.{AcceptLaws, next_fits, offer_after_fits, offer_fits, pump_fits}
 use Rattle.group_protocol.proofs.laws.fitting.proposals_fit.Goals as goal
 
 laws : goal.After-ballot_stays → AcceptLaws
 laws c =
-    record {
-      proposes = c.what_goes_out_fits.ensures.proposes;
-      sends = c.what_goes_out_fits.ensures.sends;
-    }
+    grind arith
 
 pub returns-clause-sends : goal.returns-clause-sends
 returns-clause-sends c me p offered v h free e = next_fits me p h (laws c) offered v free e

@@ -21,7 +21,7 @@ use Rattle.group_protocol.specs.Packets.{Packet}
 use Rattle.group_protocol.specs.Pump.{accepts_of, Proposals, pump}
 use Rattle.group_protocol.specs.Ranges.{AllFit, AreFit, IsFit, IsInRange, IsOwnProposer, IsWaiting}
 use Rattle.group_protocol.proofs.ByCases.{by_offer, by_part, each_asked, each_tell}
-use Rattle.group_protocol.proofs.PacketsFit.{tell_fits, AcceptLaws, asks_on_fits, led_range, offer_after_fits, pump_fits}
+use Rattle.group_protocol.proofs.PacketsFit.{tell_fits, AcceptLaws, asks_on_fits, led_range, offer_after_fits, IsPacketFit, pump_fits}
 use Rattle.group_protocol.proofs.laws.fitting.rows_fit.Goals as goal
 
 -- ---- keys that leave
@@ -44,10 +44,6 @@ drop_bytes n bytes h1 = grind (arith, nat_tests, get_or-drop)
 waiting_less : (first k : ℕ) (bytes : List ℕ) → k ≤ length bytes → IsWaiting first bytes → IsWaiting (first + k) (drop k bytes)
 waiting_less first k bytes low h = grind (arith, nat_tests, length-drop, drop_bytes)
 
--- no more leave than wait
-gone_few : (n : Known) → count_gone n ≤ length n.waiting
-gone_few n = grind (arith, nat_tests, count_few, keys_many)
-
 -- ---- calls
 
 -- a call that sends nothing
@@ -55,10 +51,6 @@ quiet_fits : (n : Known) → IsInRange n → IsFit n.me (quiet n)
 quiet_fits n h = grind (arith, nat_tests)
 
 module _ (n : Known) (h : IsInRange n) where
-  -- the packet of the node has a spelling
-  abbrev IsPacketFit : Packet → Type 0
-  IsPacketFit packet = IsBody n.me.group.size n.me.node packet.body
-
   -- an answer, by what it saves and says
   answering_fits : (to : To) (answer : Answer) → IsRecord n.me.group.size (after n.kept answer.saves)
       → (after n.kept answer.saves).starts ≡ n.kept.starts → IsBody n.me.group.size n.me.node answer.says
@@ -71,7 +63,7 @@ module _ (n : Known) (h : IsInRange n) where
   proposing_fits p before proposals fit f = record {
     same = refl;
     ranges = led_range n h f.own;
-    sends = All-append IsPacketFit before (accepts_of proposals.made) fit f.sends;
+    sends = All-append (IsPacketFit n.me) before (accepts_of proposals.made) fit f.sends;
   }
 
 -- ---- the laws
@@ -95,7 +87,7 @@ returns-clause-promise c n j first upto b votes h heard =
     let fits = c.what_goes_out_fits.ensures.parts j first upto p votes own.ranges (rw (own.size, same) heard.1) in
     let before =
     subst (λ (b : Ballot). AllFit n.me (prepare_from b j (asks_on p j first upto))) same
-    (each_asked (IsPacketFit n h) p.ballot j (asks_on p j first upto) (λ s. asks_on_fits n.me p own j first upto s)) in
+    (each_asked (IsPacketFit n.me) p.ballot j (asks_on p j first upto) (λ s. asks_on_fits n.me p own j first upto s)) in
     proposing_fits n h next (prepare_from b j (asks_on p j first upto)) (pump 16 next) before
     (pump_fits (accepts c) n.me 16 next
     (record { size = kept.1 ∙ own.size; own = rw kept.0 own.own; ranges = fits })))
@@ -115,7 +107,9 @@ returns-clause-submit c n j v h (some, (value, own)) =
     record { same = refl; ranges = led_range n h made.own; sends = f.sends })
 
 pub returns-clause-ask : goal.returns-clause-ask
-returns-clause-ask c n j from h = record { same = refl; ranges = h; sends = each_tell (IsPacketFit n h) n j from (tell_fits n h) }
+returns-clause-ask c n j from h = record { same = refl; ranges = h; sends = each_tell (IsPacketFit n.me) n j from (tell_fits n h) }
 
 pub returns-clause-gone : goal.returns-clause-gone
-returns-clause-gone c n h = grind (arith, nat_tests, waiting_less n.first (count_gone n) n.waiting (gone_few n) h.waiting)
+returns-clause-gone c n h =
+    let few : count_gone n ≤ length n.waiting = grind (arith, nat_tests, count_few, keys_many) in
+    grind (arith, nat_tests, waiting_less n.first (count_gone n) n.waiting few h.waiting)

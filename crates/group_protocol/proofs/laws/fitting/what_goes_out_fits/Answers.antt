@@ -8,47 +8,27 @@ use Rattle.base.proofs.Lists.{all_of_one}
 use Rattle.paxos_msg.specs.declared.message.Body.TheVariants.{Accept, Accepted, Ask, Prepare, Promise, Refused, Submit, Tell}
 use Rattle.paxos_msg.specs.Batches.{Body, Record}
 use Rattle.paxos_msg.specs.Fits.{IsBallot, AreBytes}
-use Rattle.paxos_msg.specs.Bodies.{IsBody}
 use Rattle.paxos_acceptor.specs.declared.me.Me.{Me}
-use Rattle.paxos_acceptor.specs.Records.{IsRecord}
 use Rattle.paxos_proposer.specs.Proposer.{coverage_of}
-use Rattle.group_protocol.specs.Known.{begun, front, Known, on_start}
+use Rattle.group_protocol.specs.Known.{begun, front, Known}
 use Rattle.group_protocol.specs.Protocol.{row}
 use Rattle.group_protocol.specs.ProposerRows.{next_ballot}
 use Rattle.group_protocol.specs.Tick.{accepts_again, asks, prepares_again}
-use Rattle.group_protocol.specs.Packets.{Packet, to_all}
+use Rattle.group_protocol.specs.Packets.{to_all}
 use Rattle.group_protocol.specs.Pump.{accepts_of, pump}
-use Rattle.group_protocol.specs.Ranges.{IsFit, IsHeardFit, IsInRange, IsMember, IsOwnLearner, IsOwnProposer}
+use Rattle.group_protocol.specs.Ranges.{IsFit, IsHeardFit, IsInRange, IsOwnLearner, IsOwnProposer}
 use Rattle.group_protocol.proofs.ByCases.{by_tick, each_accept, each_last, each_prepare}
 use Rattle.group_protocol.proofs.Campaigning.{beginning_fits, next_is_above}
-use Rattle.group_protocol.proofs.PacketsFit.{ask_fits, submit_fits, AcceptLaws, led_range, own_body, own_prepare, pump_fits}
+use Rattle.group_protocol.proofs.PacketsFit.{submit_fits, AcceptLaws, IsPacketFit, led_range, own_body, own_prepare, pump_fits}
 use Rattle.group_protocol.proofs.laws.fitting.what_goes_out_fits.Goals as goal
 
 -- bytes and one more are bytes
 push_bytes : (bytes : List ℕ) (byte : ℕ) → AreBytes bytes → byte < 256 → AreBytes (bytes ++ byte ∷ [])
 push_bytes bytes byte h low i = grind (arith, nat_tests, length_push, cases_lt, get_or_append_left, cases_eq, get_or_push, get_or_past)
 
--- a node that has just started, where its record and its learner are in their ranges
-begun_fits : (me : Me) (r : Record) → IsMember me → IsRecord me.group.size r → 0 < r.starts
-    → IsOwnLearner me (begun me r).learner → IsInRange (begun me r)
-begun_fits me r member kept counted learner = grind (arith, nat_tests)
-
--- a start, where the record and the learner after it are in their ranges
-start_fits : (me : Me) (r : Record) → IsMember me → IsRecord me.group.size (on_start me r).node.kept
-    → IsOwnLearner me (on_start me r).node.learner → IsFit me (on_start me r)
-start_fits me r member kept learner = grind (arith, nat_tests)
-
--- the packet of the node has a spelling
-abbrev IsPacketFit : Me → Packet → Type 0
-IsPacketFit me packet = IsBody me.group.size me.node packet.body
-
 -- the learner of a node that has just started
 learner_begins : goal.After-window_holds → (me : Me) (r : Record) → IsOwnLearner me (begun me r).learner
-learner_begins c me r = record {
-  size = refl;
-  ranges = c.values_fit.ensures.begins me.group.size;
-  window = c.window_holds.ensures.begins me.group.size;
-}
+learner_begins c me r = grind (arith, c.window_holds.ensures.begins me.group.size)
 
 accepts : goal.After-window_holds → AcceptLaws
 accepts c = grind (arith, nat_tests)
@@ -67,8 +47,8 @@ row_fits c n j (Tell s v) = c.rows_fit.ensures.tell n j s v
 pub returns : goal.returns
 returns c = record {
   start = λ me r member h spare.
-      start_fits me r member (c.starts_are_counted.ensures.fits me.group.size r h spare) (learner_begins c me r);
-  begun = λ me r member h counted. begun_fits me r member h counted (learner_begins c me r);
+      grind (arith, nat_tests, c.starts_are_counted.ensures.fits me.group.size r h spare, learner_begins c me r);
+  begun = λ me r member h counted. grind (arith, nat_tests, learner_begins c me r);
   typed = λ n byte h low room spare. grind (arith, nat_tests, length_push n.waiting byte, push_bytes);
   campaign = λ n h rounds places.
       let b = next_ballot n in
@@ -84,7 +64,8 @@ returns c = record {
         sends = all_of_one (IsPacketFit n.me) (to_all (Prepare b (front n))) (ballot, refl, omega arith);
       };
   tick = λ n h.
-      let asked = each_last (IsPacketFit n.me) n (submit_fits n h) (ask_fits n h c.one_front.ensures.few) in
+      let asked = each_last (IsPacketFit n.me) n (submit_fits n h n.waiting refl)
+      (c.one_front.ensures.few n.learner.learned h.learner.window) in
       by_tick (IsFit n.me) n n.proposer (record { same = refl; ranges = h; sends = asked }) (λ p e.
       let own : IsOwnProposer n.me p = rw e at h.proposer in
       let pumped = pump_fits (accepts c) n.me 16 p own in
@@ -92,14 +73,8 @@ returns c = record {
       (each_prepare (IsPacketFit n.me) p (λ i low. own_prepare n.me p own (coverage_of p i) (ltb-true (coverage_of p i) 65536 low)))
       (each_accept (IsPacketFit n.me) n.learner.learned p (λ s v e.
       own_body n.me p own (Accept p.ballot s v) (c.what_goes_out_fits.ensures.again p s v own.ranges e))) in
-      record {
-        same = refl;
-        ranges = led_range n h pumped.own;
-        sends =
-            All-append (IsPacketFit n.me) (prepares_again p ++ accepts_again n.learner.learned p)
-            (accepts_of (pump 16 p).made ++ asks n) before
-            (All-append (IsPacketFit n.me) (accepts_of (pump 16 p).made) (asks n) pumped.sends asked);
-      });
+      let after = All-append (IsPacketFit n.me) (accepts_of (pump 16 p).made) (asks n) pumped.sends asked in
+      record { same = refl; ranges = led_range n h pumped.own; sends = All-append (IsPacketFit n.me) _ _ before after });
   message = λ n j body h heard.
       let f = row_fits c n j body h heard in
       record { same = f.same; ranges = c.rows_fit.ensures.gone (row n j body).node f.ranges; sends = f.sends };

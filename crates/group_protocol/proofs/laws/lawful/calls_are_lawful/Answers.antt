@@ -1,5 +1,5 @@
 -- The calls of a node are lawful: a start, a typed byte, a campaign, a tick, and a message.
-use Rattle.std.proofs.Common.{◌≡◌, ℕ, inl, inr, List, [], ◌∷◌, ◌++◌, append_assoc, take, Option, Some, All, Contains, IfSome, IsSomeAnd, refl, subst, arith}
+use Rattle.std.proofs.Common.{◌≡◌, ℕ, inl, inr, List, [], ◌∷◌, ◌++◌, append_assoc, take, Some, All, Contains, refl, arith}
 use Rattle.std.proofs.lemmas.List.{append-nil}
 use Rattle.std.proofs.lemmas.List.Elements.{All-append, Contains-append_cases, Contains-append_left, Contains-append_right}
 use Rattle.std.proofs.lemmas.Bool.Decides.{nat_tests}
@@ -8,24 +8,23 @@ use Rattle.paxos_msg.specs.declared.ballot.Ballot.{Ballot}
 use Rattle.paxos_msg.specs.declared.value.Value.{Value}
 use Rattle.paxos_msg.specs.declared.record.Change.TheVariants as change
 use Rattle.paxos_msg.specs.declared.message.Body.TheVariants.{Accept, Prepare}
-use Rattle.paxos_msg.specs.Ballots.{IsAtMost, IsBelow}
 use Rattle.paxos_msg.specs.Batches.{IsTyped, Sent}
-use Rattle.paxos_msg.specs.Keys.{Key, keys_from, keys_of}
+use Rattle.paxos_msg.specs.Keys.{Key, keys_of}
 use Rattle.paxos_msg.specs.Messages.{IsSent}
 use Rattle.paxos_msg.specs.Records.{MaySave}
 use Rattle.paxos_proposer.specs.Proposer.{coverage_of}
 use Rattle.group_protocol.specs.Backs.{Backs}
-use Rattle.group_protocol.specs.Known.{front, Known, new_key, on_typed, own_batch}
+use Rattle.group_protocol.specs.Known.{front, Known, new_key, on_start, on_typed, own_batch}
 use Rattle.group_protocol.specs.Packets.{Packet, to_all}
-use Rattle.group_protocol.specs.Protocol.{row}
+use Rattle.group_protocol.specs.Protocol.{on_message, row}
 use Rattle.group_protocol.specs.ProposerRows.{next_ballot, on_campaign}
 use Rattle.group_protocol.specs.Pump.{accepts_of, pump}
-use Rattle.group_protocol.specs.Steps.{IsLawful, messages_handed_out}
+use Rattle.group_protocol.specs.Steps.{IsLawful}
 use Rattle.group_protocol.specs.Tick.{accepts_again, asks, prepares_again}
 use Rattle.group_protocol.specs.WaitingKeys.{batch_of, count_gone, waiting_keys}
 use Rattle.group_protocol.proofs.ByCases.{by_tick, each_accept, each_last, each_prepare}
 use Rattle.group_protocol.proofs.Campaigning.{next_is_above}
-use Rattle.group_protocol.proofs.Sending.{led_lawful, prepare_stable, sent_lawful, sound, then_pump, at_most_same, leading, goes_on, IsStable, sender_of, SendingLaws, stable_goes}
+use Rattle.group_protocol.proofs.Sending.{led_lawful, prepare_stable, sent_lawful, sound, then_pump, leading, promised_same, quiet_lawful, goes_on, IsStable, sender_of, ProposingLaws, SendingLaws, stable_goes}
 use Rattle.group_protocol.proofs.Saving.{record_saved}
 use Rattle.group_protocol.proofs.WaitingKeys.{batch_typed, first_keys, keys_from-append, last_keys}
 use Rattle.group_protocol.proofs.laws.lawful.calls_are_lawful.Goals as goal
@@ -38,8 +37,7 @@ waiting_typed {typed = typed} n (byte ∷ bytes) same h v e =
     let is : own_batch n n.first (take 32 (byte ∷ bytes)) ≡ v = cc in
     rw (← is) (batch_typed typed n.me.node n.kept.starts n.first byte (take 31 bytes)
     (λ key has. h.waiting key
-    (subst (λ (ys : List ℕ). Contains (keys_from n.me.node n.kept.starts n.first ys) key) same
-    (first_keys n.me.node n.kept.starts n.first 32 (byte ∷ bytes) key has))))
+    (rw (← same) (first_keys n.me.node n.kept.starts n.first 32 (byte ∷ bytes) key has))))
 
 -- what a node asks all for
 asks_stable : (sent : Sent) (typed : List Key) (n : Known) → Backs sent typed n → All (IsStable (sender_of typed n) sent) (asks n)
@@ -57,10 +55,6 @@ typed_waits typed n byte k old has =
       | inr new ↦ Contains-append_right typed (keys_of (new_key n byte)) k new
     ]
 
--- what is above the promised ballot was not promised
-not_promised : (o : Option Ballot) (b : Ballot) → IsSomeAnd o (λ p. IsAtMost b p) → IfSome o (λ p. IsBelow p b) → ⊥
-not_promised o b h above = grind (arith, nat_tests)
-
 sending : goal.After-begins_backed → SendingLaws
 sending c = grind (arith, nat_tests)
 
@@ -68,46 +62,31 @@ pub returns : goal.returns
 returns c = record {
   start = λ sent typed me r h.
       let learner = c.stays_backed-2.ensures.begins sent me.group.size in
-      record {
-        saves = (tt, refl);
-        learns = learner;
-        keeps = record { stays = λ s v e. e };
-        sends = tt;
-        backs =
-            rw (append-nil sent) (record {
-              kept = record { votes = c.backing.ensures.start sent r h.votes; asked = h.asked; own = h.own };
-              proposer = tt;
-              learner = learner;
-              waiting = λ k has. absurd (omega (arith, has.1));
-            });
-      };
-  typed = λ sent typed n byte ranges h. record {
-    saves = refl;
-    learns = h.learner;
-    keeps = record { stays = λ s v e. e };
-    sends = tt;
-    backs =
-        rw (append-nil sent) (record {
-          kept = h.kept;
-          proposer = h.proposer;
-          learner = h.learner;
-          waiting = λ k. typed_waits typed n byte k (h.waiting k);
-        });
-  };
+      let backs : Backs sent typed (on_start me r).node = record {
+        kept = record { votes = c.backing.ensures.start sent r h.votes; asked = h.asked; own = h.own };
+        proposer = tt;
+        learner = learner;
+        waiting = λ k has. absurd (omega (arith, has.1));
+      } in
+      grind (arith, nat_tests, append-nil, backs);
+  typed = λ sent typed n byte ranges h. quiet_lawful (record {
+    kept = h.kept;
+    proposer = h.proposer;
+    learner = h.learner;
+    waiting = λ k. typed_waits typed n byte k (h.waiting k);
+  });
   campaign = λ sent typed n ranges h.
       let b : Ballot = next_ballot n in
       let next : Known = (on_campaign n).node in
       let may : MaySave sent n.kept (change.Promise b) = next_is_above n.kept.promised n.remembered n.me.node in
       let backs : Backs sent typed next = record {
         kept =
-            record_saved (record {
-              raising = record { raises = c.saves_only_raise.ensures.promise };
-              saved = c.backing.ensures.saved;
-            }) sent n.me.node n.kept (change.Promise b) h.kept may;
+            record_saved (record { raises = c.saves_only_raise.ensures.promise; saved = c.backing.ensures.saved })
+            sent n.me.node n.kept (Some (change.Promise b)) h.kept may;
         proposer =
             record {
               backed = c.begins_backed.ensures sent b (front n) n.me.group.size
-                  (λ s v said. not_promised n.kept.promised b (h.kept.own b s v refl said) may);
+                  (λ s v said. let promised = h.kept.own b s v refl said in grind (arith, nat_tests, promised, may));
               promised = refl;
             };
         learner = h.learner;
@@ -116,43 +95,27 @@ returns c = record {
       let goes =
       stable_goes (sending c) sent typed next (on_campaign n).sends backs
       (all_of_one (IsStable (sender_of typed next) sent) (to_all (Prepare b (front n)))
-      (record { may = (refl, at_most_same b); old = tt })) in
-      record { saves = (may, refl); learns = h.learner; keeps = record { stays = λ s v e. e }; sends = goes.sends; backs = goes.backs };
+      (record { may = (refl, promised_same next.kept b refl); old = tt })) in
+      grind (arith, nat_tests, may, goes, h.learner);
   tick = λ sent typed n ranges h. by_tick (IsLawful sent typed n.kept n.learner.learned) n n.proposer
       (sent_lawful h (stable_goes (sending c) sent typed n (asks n) h (asks_stable sent typed n h))) (λ p e.
       let g = sound h ranges p e in
       let before : List Packet = prepares_again p ++ accepts_again n.learner.learned p in
       let S : Packet → Type 0 = IsStable (sender_of typed n) sent in
+      let laws : ProposingLaws = grind (arith, nat_tests) in
       let pumped =
-      then_pump h (record {
-        sending = sending c;
-        proposes = c.proposals_may_be_sent.ensures.sends;
-        proposed = c.proposals_may_be_sent.ensures.backed;
-      }) p before g (All-append S (prepares_again p) (accepts_again n.learner.learned p)
+      then_pump h laws p before g (All-append S (prepares_again p) (accepts_again n.learner.learned p)
       (each_prepare S p (λ i low. prepare_stable h p g _ (coverage_of p i)))
       (each_accept S n.learner.learned p (λ s v e.
       let was : IsSent sent n.me.node (Accept p.ballot s v) = g.led.backed.sent_all s v e in
       record { may = (g.led.backed.own, inl was); old = was }))) in
       let made : List Packet = accepts_of (pump 16 p).made in
-      let now : Sent = sent ++ messages_handed_out n.me.node (before ++ made) in
       let next : Known = leading n (pump 16 p).proposer in
-      let last = stable_goes (sending c) now typed next (asks n) pumped.backs (asks_stable now typed next pumped.backs) in
-      led_lawful n.offered h (rw (append_assoc before made (asks n)) at (goes_on (sending c) pumped last)));
+      let last = stable_goes laws.sending _ typed next (asks n) pumped.backs (asks_stable _ typed next pumped.backs) in
+      led_lawful n.offered h (rw (append_assoc before made (asks n)) at (goes_on laws.sending pumped last)));
   message = λ sent typed n j body ranges h delivered.
       let f = c.rows_are_lawful.ensures sent typed n j body ranges h delivered in
-      let next : Known = (row n j body).node in
-      record {
-        saves = f.saves;
-        learns = f.learns;
-        keeps = f.keeps;
-        sends = f.sends;
-        backs = record {
-          kept = f.backs.kept;
-          proposer = f.backs.proposer;
-          learner = f.backs.learner;
-          waiting =
-              λ k has. f.backs.waiting k
-              (last_keys next.me.node next.kept.starts next.first (count_gone next) next.waiting k has);
-        };
-      };
+      let waiting : (k : Key) → Contains (waiting_keys (on_message n j body).node) k → Contains typed k =
+      λ k has. f.backs.waiting k (last_keys _ _ _ (count_gone (row n j body).node) _ k has) in
+      grind (arith, nat_tests, f, waiting);
 }

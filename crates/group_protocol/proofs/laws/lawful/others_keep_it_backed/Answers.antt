@@ -23,13 +23,11 @@ laws c = grind (arith, nat_tests)
 
 pub returns-clause-sends : goal.returns-clause-sends
 returns-clause-sends c sent typed known n size j learned r body ne may h =
-    backs_later (laws c) sent (record { sender = j; body = body } ∷ []) typed n
-    (other_quiet size known learned sent n.me.node j r body ne may n.kept) h
+    backs_later (laws c) sent _ typed n (other_quiet size known learned sent n.me.node j r body ne may n.kept) h
 
 pub returns-clause-sends_record : goal.returns-clause-sends_record
 returns-clause-sends_record c sent known me size j learned own r body ne may h =
-    record_later (laws c) me sent (record { sender = j; body = body } ∷ []) own
-    (other_quiet size known learned sent me j r body ne may own) h
+    record_later (laws c) me sent _ own (other_quiet size known learned sent me j r body ne may own) h
 
 pub returns-clause-types : goal.returns-clause-types
 returns-clause-types c sent typed more n h = grind (arith, nat_tests, Contains-append_left)

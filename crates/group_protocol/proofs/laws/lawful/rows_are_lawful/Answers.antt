@@ -1,14 +1,14 @@
 -- A message of each kind is lawful.
-use Rattle.std.proofs.Common.{◌≡◌, ◌↔◌, ◌∙◌, ◌++◌, ℕ, Bool, true, false, if◌then◌else◌, inr, List, [], ◌∷◌, Option, Some, IfSome, IsSomeAnd, subst, sym, arith}
+use Rattle.std.proofs.Common.{◌≡◌, ◌↔◌, ◌++◌, ℕ, false, inr, List, [], ◌∷◌, Option, Some, IfSome, IsSomeAnd, subst, sym, arith}
 use Rattle.std.specs.FinMap.{get}
 use Rattle.std.proofs.lemmas.Bool.Decides.{nat_tests}
 use Rattle.std.proofs.lemmas.List.{append-nil}
+use Rattle.base.proofs.Branches.{either}
 use Rattle.base.proofs.Lists.{all_of_one}
 use Rattle.paxos_msg.specs.declared.ballot.Ballot.{Ballot}
-use Rattle.paxos_msg.specs.declared.value.Value.{Value}
 use Rattle.paxos_msg.specs.declared.message.Body.TheVariants.{Accept, Accepted, Ask, Prepare, Promise, Refused, Submit, Tell}
 use Rattle.paxos_msg.specs.Ballots.{IsAtMost}
-use Rattle.paxos_msg.specs.Batches.{Body, Change, IsFree, MaySend, Record, Sent, Vote}
+use Rattle.paxos_msg.specs.Batches.{IsFree, MaySend, Record, Sent, Vote}
 use Rattle.paxos_msg.specs.Bodies.{IsBody}
 use Rattle.paxos_msg.specs.Keys.{Key}
 use Rattle.paxos_msg.specs.Messages.{IsSaid}
@@ -16,7 +16,6 @@ use Rattle.paxos_msg.specs.Records.{MaySave}
 use Rattle.paxos_msg.specs.Sending.{IsNoNewProposal}
 use Rattle.paxos_msg.specs.Tests.{ballot_lt}
 use Rattle.paxos_acceptor.specs.Answers.{accept_of, after, Answer, prepare_of, greater_promise}
-use Rattle.paxos_acceptor.specs.Records.{HasBackedVotes as IsVotesBacked}
 use Rattle.paxos_proposer.specs.Backed.{IsProposerBacked}
 use Rattle.paxos_proposer.specs.Proposer.{asks_on, Proposer, proposer_after_part}
 use Rattle.paxos_learner.specs.Backed.{IsLearnerBacked}
@@ -27,16 +26,15 @@ use Rattle.group_protocol.specs.AcceptorRows.{accept_answered_to, answering, unl
 use Rattle.group_protocol.specs.Backs.{Backs, HasPromised, IsLeadingBacked}
 use Rattle.group_protocol.specs.Known.{Known, quiet}
 use Rattle.group_protocol.specs.LearnerRows.{on_ask}
-use Rattle.group_protocol.specs.Protocol.{row}
-use Rattle.group_protocol.specs.ProposerRows.{leaves_room, prepare_from, unless_refused}
+use Rattle.group_protocol.specs.ProposerRows.{leaves_room, prepare_from}
 use Rattle.group_protocol.specs.Packets.{Packet}
-use Rattle.group_protocol.specs.Pump.{accepts_of, offer, pump, stop}
+use Rattle.group_protocol.specs.Pump.{accepts_of, pump}
 use Rattle.group_protocol.specs.Ranges.{IsInRange}
-use Rattle.group_protocol.specs.Steps.{IsDelivered, IsLawful, IsSavedBy, messages_handed_out}
+use Rattle.group_protocol.specs.Steps.{IsDelivered, IsLawful, messages_handed_out}
 use Rattle.group_protocol.proofs.ByCases.{by_offer, by_part, each_asked, each_tell}
-use Rattle.group_protocol.proofs.Sending.{IsSound, leading_backs, led_lawful, prepare_stable, quiet_lawful, sent_lawful, sound, then_pump, leading, offer_goes, promised_same, Proposes, ProposingLaws, pump_goes, stop_goes, goes_on, IsStable, Sender, sender_of, SendingLaws, stable_goes}
+use Rattle.group_protocol.proofs.Sending.{IsSound, leading_backs, led_lawful, prepare_stable, quiet_lawful, sent_lawful, sound, then_pump, offer_goes, promised_same, Proposes, ProposingLaws, pump_goes, stop_goes, goes_on, IsStable, Sender, sender_of, SendingLaws, stable_goes}
 use Rattle.group_protocol.proofs.NodeBackedAsMoreIsSent.{said_still}
-use Rattle.group_protocol.proofs.Saving.{promised_still}
+use Rattle.group_protocol.proofs.Saving.{promised_still, RecordLaws, record_saved}
 use Rattle.group_protocol.proofs.laws.lawful.rows_are_lawful.Goals as goal
 
 -- ---- a proposer after a save
@@ -60,11 +58,6 @@ record IsAnswer (sent : Sent) (by : Sender) (answer : Answer) : Type 0 where
   starts : (after by.kept answer.saves).starts ≡ by.kept.starts
   may_save : IfSome answer.saves (MaySave sent by.kept)
   may_send : MaySend by.size by.typed by.learned sent by.me (after by.kept answer.saves) answer.says
-  backed : IsVotesBacked sent (after by.kept answer.saves)
-
--- the save as the law of a call has it
-saved_by : (sent : Sent) (r : Record) (saves : Option Change) → IfSome saves (MaySave sent r) → IsSavedBy sent r saves (after r saves)
-saved_by sent r saves may = grind (arith, nat_tests)
 
 module _ (c : goal.After-learned_stays) where
   sending : SendingLaws
@@ -74,42 +67,25 @@ module _ (c : goal.After-learned_stays) where
   proposing = grind (arith, nat_tests)
 
   module _ (sent : Sent) (typed : List Key) (n : Known) where
-    -- the node is backed after the save of an answer
-    answering_backed : (answer : Answer) → Backs sent typed n → IsAnswer sent (sender_of typed n) answer
-        → Backs sent typed (with_kept n (after n.kept answer.saves))
-    answering_backed answer h may =
-        let still : (b : Ballot) → HasPromised n.kept b → HasPromised (after n.kept answer.saves) b =
-        λ b. promised_still (record { raises = c.saves_only_raise.ensures.promise }) sent n.kept answer.saves b may.may_save in
-        record {
-          kept =
-              record {
-                votes = may.backed;
-                asked = λ b from mine said. still b (h.kept.asked b from mine said);
-                own = λ b s v mine said. still b (h.kept.own b s v mine said);
-              };
-          proposer =
-              proposer_kept c.tests_are_exact.ensures.not_below sent n.me.node (after n.kept answer.saves) n.kept n.proposer
-              still h.proposer;
-          learner = h.learner;
-          waiting = λ k waits. h.waiting k (rw may.starts at waits);
-        }
-
-    -- an answer is lawful
+    -- an answer is lawful, since the node is backed after its save
     answer_lawful : (to : To) (answer : Answer) → Backs sent typed n → IsAnswer sent (sender_of typed n) answer
         → IsLawful sent typed n.kept n.learner.learned (answering n to answer)
     answer_lawful to answer h may =
         let next : Known = with_kept n (after n.kept answer.saves) in
         let packet : Packet = record { to = to; body = answer.says } in
+        let laws : RecordLaws = record { raises = c.saves_only_raise.ensures.promise; saved = c.backing.ensures.saved } in
+        let backs : Backs sent typed next = record {
+          kept = record_saved laws sent n.me.node n.kept answer.saves h.kept may.may_save;
+          proposer =
+              proposer_kept c.tests_are_exact.ensures.not_below sent n.me.node next.kept n.kept n.proposer
+              (λ b. promised_still laws sent n.kept answer.saves b may.may_save) h.proposer;
+          learner = h.learner;
+          waiting = λ k waits. h.waiting k (rw may.starts at waits);
+        } in
         let goes =
-        stable_goes sending sent typed next (packet ∷ []) (answering_backed answer h may)
+        stable_goes sending sent typed next (packet ∷ []) backs
         (all_of_one (IsStable (sender_of typed next) sent) packet (record { may = may.may_send; old = may.old })) in
-        record {
-          saves = saved_by sent n.kept answer.saves may.may_save;
-          learns = h.learner;
-          keeps = record { stays = λ s v e. e };
-          sends = goes.sends;
-          backs = goes.backs;
-        }
+        grind (arith, nat_tests, may.may_save, goes, h.learner)
 
     -- a proposer is sound after a part of a promise that was delivered
     part_sound : IsInRange n → (p : Proposer) → IsSound sent n p → (j first upto : ℕ) (votes : List Vote)
@@ -120,77 +96,9 @@ module _ (c : goal.After-learned_stays) where
         let body : IsBody p.size j (Promise p.ballot first upto votes) = rw g.size delivered.fits.1 in
         let (ballot, size) = c.ballot_stays.ensures.parts p j (Promise p.ballot first upto votes) in
         let nodes = ranges.me.few in
-        record {
-          led = record {
-            backed =
-                c.parts_keep_it_backed.ensures sent n.me.node j first upto p votes g.led.backed (omega arith) body delivered.is_sent;
-            promised = rw ballot g.led.promised;
-          };
-          size = size ∙ g.size;
-        }
-
--- a message of this body is lawful
-abbrev IsRowLawful : Body → Type 0
-IsRowLawful body = goal.After-learned_stays → (sent : Sent) (typed : List Key) (n : Known) (j : ℕ) → IsInRange n → Backs sent typed n
-    → IsDelivered sent n j body → IsLawful sent typed n.kept n.learner.learned (row n j body)
-
-prepare_lawful : (b : Ballot) (from : ℕ) → IsRowLawful (Prepare b from)
-prepare_lawful b from c sent typed n j ranges h delivered =
-    let law = c.promises_may_be_sent.ensures in
-    answer_lawful c sent typed n (whom.One b.node) (prepare_of n.kept b from) h (record {
-      old = grind (arith, nat_tests);
-      starts = grind (arith, nat_tests);
-      may_save = law.saves sent n.kept b from;
-      may_send = law.sends n.me.group.size n.me.node from typed (get n.learner.learned) sent n.kept b ranges.kept h.kept.votes;
-      backed = law.backed sent n.kept b from h.kept.votes;
-    })
-
-accept_lawful : (b : Ballot) (s : ℕ) (v : Value) → IsRowLawful (Accept b s v)
-accept_lawful b s v c sent typed n j ranges h delivered =
-    let law = c.votes_may_be_sent.ensures in
-    let said : IsSaid sent (Accept b s v) = (j, delivered.is_sent) in
-    answer_lawful c sent typed n (accept_answered_to (greater_promise n.kept.promised b) b) (accept_of n.kept b s v) h (record {
-      old = grind (arith, nat_tests);
-      starts = grind (arith, nat_tests);
-      may_save = law.saves sent n.kept b s v said;
-      may_send = law.sends n.me.group.size n.me.node s typed (get n.learner.learned) sent n.kept b v h.kept.votes said;
-      backed = law.backed sent n.kept b s v h.kept.votes said;
-    })
-
-promise_lawful : (b : Ballot) (first upto : ℕ) (votes : List Vote) → IsRowLawful (Promise b first upto votes)
-promise_lawful b first upto votes c sent typed n j ranges h delivered =
-    by_part (IsLawful sent typed n.kept n.learner.learned) n n.proposer j first upto b votes (quiet_lawful h) (λ p e t.
-    let g = sound h ranges p e in
-    let same : p.ballot ≡ b = (c.tests_are_exact.ensures.same p.ballot b).0 t in
-    let own = subst (λ (c : Ballot). IsDelivered sent n j (Promise c first upto votes)) (sym same) delivered in
-    led_lawful n.offered h (then_pump h (proposing c) (proposer_after_part p j first upto votes)
-    (prepare_from b j (asks_on p j first upto)) (part_sound c sent typed n ranges p g j first upto votes own)
-    (each_asked (IsStable (sender_of typed n) sent) b j (asks_on p j first upto) (λ s e.
-    rw (← same) (prepare_stable h p g _ s)))))
-
--- what was submitted may be offered, where a pump leaves room for it
-offer_if : ProposingLaws → (typed : List Key) (n : Known) (now : Sent) (t : Bool) (p : Proposer) (v : Value) → IsFree now v
-    → p.size ≡ n.me.group.size → Backs now typed (leading n p) → Proposes typed n now (if t then offer p v else stop p)
-offer_if laws typed n now true p v free size g = offer_goes laws typed n now p v free size g
-offer_if laws typed n now false p v free size g = stop_goes laws typed n now p size g
-
-submit_lawful : (v : Value) → IsRowLawful (Submit v)
-submit_lawful v c sent typed n j ranges h delivered =
-    by_offer (IsLawful sent typed n.kept n.learner.learned) n n.proposer v (quiet_lawful h) (λ p e.
-    let g = sound h ranges p e in
-    let laws = proposing c in
-    let pumped = pump_goes laws typed n 16 sent p g.size (leading_backs h p g) in
-    let more : Sent = messages_handed_out n.me.node (accepts_of (pump 16 p).made) in
-    let free : IsFree (sent ++ more) v = inr (said_still sent more (Submit v) (j, delivered.is_sent)) in
-    let offered = offer_if laws typed n (sent ++ more) (leaves_room (pump 16 p)) (pump 16 p).proposer v free pumped.size
-    pumped.goes.backs in
-    led_lawful _ h (goes_on laws.sending pumped.goes offered.goes))
-
--- Tells may say what is learned
-ask_lawful : (from : ℕ) → IsRowLawful (Ask from)
-ask_lawful from c sent typed n j ranges h delivered =
-    sent_lawful h (stable_goes (sending c) sent typed n (on_ask n j from).sends h
-    (each_tell (IsStable (sender_of typed n) sent) n j from (λ s v e. record { may = e; old = tt })))
+        let backed =
+        c.parts_keep_it_backed.ensures sent n.me.node j first upto p votes g.led.backed (omega arith) body delivered.is_sent in
+        grind (arith, backed, ballot, size, g)
 
 -- a call that leaves the record and what waits, and sends nothing
 heard_lawful : {sent : Sent} {typed : List Key} (n : Known) (o : Option Proposer) (remembered : Option Ballot) (l : Learner)
@@ -199,25 +107,62 @@ heard_lawful : {sent : Sent} {typed : List Key} (n : Known) (o : Option Proposer
     → IsLawful sent typed n.kept n.learner.learned (quiet (record n { proposer = o; remembered = remembered; learner = l }))
 heard_lawful n o remembered l h proposer learner more = grind (arith, nat_tests, append-nil)
 
--- a proposer that a Refused has left is backed
-refused_backs : (sent : Sent) (me : ℕ) (r : Record) (b : Ballot) (o : Option Proposer) → IfSome o (IsLeadingBacked sent me r)
-    → IfSome (unless_refused b o) (IsLeadingBacked sent me r)
-refused_backs sent me r b o h = grind (arith, nat_tests)
-
--- ---- a message of any kind
+-- ---- a message of each kind
 
 pub returns : goal.returns
-returns c sent typed n j (Prepare b from) = prepare_lawful b from c sent typed n j
-returns c sent typed n j (Promise b first upto votes) = promise_lawful b first upto votes c sent typed n j
-returns c sent typed n j (Accept b s v) = accept_lawful b s v c sent typed n j
-returns c sent typed n j (Accepted b s v) = λ ranges h delivered.
+-- a Prepare
+returns c sent typed n j (Prepare b from) ranges h delivered =
+    let law = c.promises_may_be_sent.ensures in
+    answer_lawful c sent typed n (whom.One b.node) (prepare_of n.kept b from) h (record {
+      old = grind (arith, nat_tests);
+      starts = grind (arith, nat_tests);
+      may_save = law.saves sent n.kept b from;
+      may_send = law.sends n.me.group.size n.me.node from typed (get n.learner.learned) sent n.kept b ranges.kept h.kept.votes;
+    })
+-- an Accept
+returns c sent typed n j (Accept b s v) ranges h delivered =
+    let law = c.votes_may_be_sent.ensures in
+    let said : IsSaid sent (Accept b s v) = (j, delivered.is_sent) in
+    answer_lawful c sent typed n (accept_answered_to (greater_promise n.kept.promised b) b) (accept_of n.kept b s v) h (record {
+      old = grind (arith, nat_tests);
+      starts = grind (arith, nat_tests);
+      may_save = law.saves sent n.kept b s v said;
+      may_send = law.sends n.me.group.size n.me.node s typed (get n.learner.learned) sent n.kept b v h.kept.votes said;
+    })
+-- a Promise
+returns c sent typed n j (Promise b first upto votes) ranges h delivered =
+    by_part (IsLawful sent typed n.kept n.learner.learned) n n.proposer j first upto b votes (quiet_lawful h) (λ p e t.
+    let g = sound h ranges p e in
+    let same : p.ballot ≡ b = (c.tests_are_exact.ensures.same p.ballot b).0 t in
+    let own = subst (λ (c : Ballot). IsDelivered sent n j (Promise c first upto votes)) (sym same) delivered in
+    led_lawful n.offered h (then_pump h (proposing c) (proposer_after_part p j first upto votes)
+    (prepare_from b j (asks_on p j first upto)) (part_sound c sent typed n ranges p g j first upto votes own)
+    (each_asked (IsStable (sender_of typed n) sent) b j (asks_on p j first upto) (λ s e.
+    rw (← same) (prepare_stable h p g _ s)))))
+-- a Submit: what it submits may be offered, where a pump leaves room for it
+returns c sent typed n j (Submit v) ranges h delivered =
+    by_offer (IsLawful sent typed n.kept n.learner.learned) n n.proposer v (quiet_lawful h) (λ p e.
+    let g = sound h ranges p e in
+    let laws = proposing c in
+    let pumped = pump_goes laws typed n 16 sent p g.size (leading_backs h p g) in
+    let more : Sent = messages_handed_out n.me.node (accepts_of (pump 16 p).made) in
+    let free : IsFree (sent ++ more) v = inr (said_still sent more (Submit v) (j, delivered.is_sent)) in
+    let now = (pump 16 p).proposer in
+    let offered = either (Proposes typed n (sent ++ more)) (leaves_room (pump 16 p))
+    (offer_goes laws typed n (sent ++ more) now v free pumped.size pumped.goes.backs)
+    (stop_goes laws typed n (sent ++ more) now pumped.size pumped.goes.backs) in
+    led_lawful _ h (goes_on laws.sending pumped.goes offered.goes))
+-- an Ask: Tells may say what is learned
+returns c sent typed n j (Ask from) ranges h delivered =
+    sent_lawful h (stable_goes (sending c) sent typed n (on_ask n j from).sends h
+    (each_tell (IsStable (sender_of typed n) sent) n j from (λ s v e. record { may = e; old = tt })))
+-- an Accepted, a Refused and a Tell, which send nothing
+returns c sent typed n j (Accepted b s v) ranges h delivered =
     heard_lawful n n.proposer n.remembered _ h h.proposer
     (c.stays_backed-2.ensures.accepted sent n.learner j s b v h.learner delivered.is_sent)
     (c.learned_stays.ensures.accepted n.learner j s b v)
-returns c sent typed n j (Refused b promised) = λ ranges h delivered.
-    heard_lawful n _ _ n.learner h (refused_backs sent n.me.node n.kept b n.proposer h.proposer) h.learner (record { stays = λ s v e. e })
-returns c sent typed n j (Submit v) = submit_lawful v c sent typed n j
-returns c sent typed n j (Ask from) = ask_lawful from c sent typed n j
-returns c sent typed n j (Tell s v) = λ ranges h delivered.
+returns c sent typed n j (Refused b promised) ranges h delivered =
+    heard_lawful n _ _ n.learner h (grind (arith, nat_tests, h.proposer)) h.learner (record { stays = λ s v e. e })
+returns c sent typed n j (Tell s v) ranges h delivered =
     heard_lawful n n.proposer n.remembered _ h h.proposer
     (c.stays_backed-2.ensures.told sent n.learner s v h.learner (j, delivered.is_sent)) (c.learned_stays.ensures.told n.learner s v)

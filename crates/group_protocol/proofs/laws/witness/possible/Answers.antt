@@ -1,6 +1,6 @@
 -- A node that leads, with a key that waits and was offered, a kept vote and a tally.
-use Rattle.std.proofs.Common.{◌≡◌, ℕ, zero, suc, [], ◌∷◌, ◌++◌, None, Some, refl, subst, arith}
-use Rattle.std.specs.FinMap.{empty, get, get-empty, insert}
+use Rattle.std.proofs.Common.{◌≡◌, [], ◌∷◌, ◌++◌, None, Some, refl, subst, arith, rules}
+use Rattle.std.specs.FinMap.{empty, get-empty, insert}
 use Rattle.std.specs.Ordering.{nat_cmp}
 use Rattle.std.proofs.lemmas.Bool.Decides.{nat_tests}
 use Rattle.paxos_msg.specs.declared.ballot.Ballot.{Ballot}
@@ -9,10 +9,8 @@ use Rattle.paxos_msg.specs.declared.value.Value.TheVariants.{Keys, Noop}
 use Rattle.paxos_msg.specs.declared.message.Body.TheVariants.{Accept, Accepted, Prepare, Promise}
 use Rattle.paxos_msg.specs.Batches.{Sent, Vote}
 use Rattle.paxos_msg.specs.Bodies.{IsBody}
-use Rattle.paxos_msg.specs.Fits.{IsValue, AreBytes}
 use Rattle.paxos_msg.specs.Keys.{Key}
-use Rattle.paxos_msg.specs.Messages.{IsSaid}
-use Rattle.paxos_proposer.specs.Backed.{IsProposerBacked, IsQuietUnder}
+use Rattle.paxos_proposer.specs.Backed.{IsProposerBacked}
 use Rattle.paxos_proposer.specs.Proposer.{proposer_after_part, new_proposer, Proposer, proposing}
 use Rattle.paxos_proposer.specs.States.{IsProposerInRange}
 use Rattle.paxos_learner.specs.Backed.{IsLearnerBacked}
@@ -21,7 +19,7 @@ use Rattle.paxos_learner.specs.Tallies.{Tally, begun_tally as heard_of}
 use Rattle.paxos_learner.specs.declared.heard.Heard.TheVariants.{Counted}
 use Rattle.paxos_learner.proofs.OnePlace.{get_here}
 use Rattle.group_protocol.proofs.Elements.{entries_none}
-use Rattle.group_protocol.specs.Backs.{Backs, HasPromised}
+use Rattle.group_protocol.specs.Backs.{Backs}
 use Rattle.group_protocol.specs.Known.{Known}
 use Rattle.group_protocol.specs.Ranges.{IsInRange}
 use Rattle.group_protocol.proofs.laws.witness.possible.Goals as goal
@@ -99,43 +97,12 @@ n = record {
   first = 1;
 }
 
--- ---- what was sent
-
--- before the proposal nothing was proposed
-unsaid : (s : ℕ) (v : Value) → IsSaid asked (Accept b s v) → ⊥
-unsaid s v (i, h) = grind (arith, nat_tests)
-
--- all was asked and proposed under the promised ballot
-asked_promised : (c : Ballot) (from : ℕ) → IsSaid sent (Prepare c from) → HasPromised n.kept c
-asked_promised c from (i, h) = grind (arith, nat_tests)
-
-proposed_promised : (c : Ballot) (s : ℕ) (v : Value) → IsSaid sent (Accept c s v) → HasPromised n.kept c
-proposed_promised c s v (i, h) = grind (arith, nat_tests)
-
--- what came after the proposal proposes nothing
-quiet : IsQuietUnder b proposed sent
-quiet = grind (arith, nat_tests)
-
 -- ---- what its learner hears
 
 heard_one : heard_accepted (new_learner 3) 2 b 0 batch ≡ record { learner = l; answer = Counted }
-heard_one =
-    let value : get (empty {X = Value} {R = nat_cmp}) 0 ≡ None = get-empty nat_cmp 0 in
-    let tally : get (empty {X = Tally} {R = nat_cmp}) 0 ≡ None = get-empty nat_cmp 0 in
-    rw (value, entries_none {X = Value}, tally) refl
+heard_one = rw (get-empty {X = Value} nat_cmp 0, entries_none {X = Value}, get-empty {X = Tally} nat_cmp 0) refl
 
--- ---- ranges
-
-one_byte : AreBytes (65 ∷ [])
-one_byte zero = omega arith
-one_byte (suc i) = omega arith
-
-batch_fits : IsValue 3 batch
-batch_fits = grind (arith, nat_tests)
-
-part_body : (j : ℕ) → IsBody 3 j (Promise b 0 65536 [])
-part_body j = grind (arith, nat_tests)
-
+-- the promise of node 3 has a spelling
 vote_body : IsBody 3 3 (Promise b 0 65536 (vote ∷ []))
 vote_body = grind (arith, nat_tests)
 
@@ -144,21 +111,22 @@ module _ (c : goal.After-window_holds) where
 
   p_1_backed : IsProposerBacked asked 1 p_1
   p_1_backed =
-      c.parts_keep_it_backed.ensures asked 1 1 0 65536 (new_proposer b 0 3) [] (c.begins_backed.ensures asked b 0 3 unsaid)
-      (omega arith) (part_body 1) (1, omega arith, refl)
+      c.parts_keep_it_backed.ensures asked 1 1 0 65536 (new_proposer b 0 3) []
+      (c.begins_backed.ensures asked b 0 3 (λ s v said. grind (arith, nat_tests)))
+      (omega arith) (grind (arith, nat_tests)) (1, omega arith, refl)
 
   p_3_backed : IsProposerBacked proposed 1 p_3
   p_3_backed =
       c.proposals_may_be_sent.ensures.backed asked 1 p_2 batch
-      (c.parts_keep_it_backed.ensures asked 1 2 0 65536 p_1 [] p_1_backed (omega arith) (part_body 2) (2, omega arith, refl))
+      (c.parts_keep_it_backed.ensures asked 1 2 0 65536 p_1 [] p_1_backed (omega arith) (grind (arith, nat_tests)) (2, omega arith, refl))
 
   p_backed : IsProposerBacked sent 1 p
   p_backed =
-      c.stays_backed.ensures proposed sent 1 p quiet
+      c.stays_backed.ensures proposed sent 1 p (grind (arith, nat_tests))
       (c.parts_keep_it_backed.ensures proposed 1 3 0 65536 p_3 (vote ∷ []) p_3_backed (omega arith) vote_body (3, omega arith, refl))
 
   p_3_fits : IsProposerInRange p_3
-  p_3_fits = grind (arith, nat_tests, part_body, batch_fits, c.what_goes_out_fits.ensures)
+  p_3_fits = grind (arith, nat_tests, c.what_goes_out_fits.ensures)
 
   -- ---- the node
 
@@ -173,18 +141,18 @@ module _ (c : goal.After-window_holds) where
       size = refl;
       ranges =
           subst (λ (h : Hearing). IsLearnerInRange h.learner) heard_one
-          (c.values_fit.ensures.accepted (new_learner 3) 2 0 b batch batch_fits (c.values_fit.ensures.begins 3));
+          (c.values_fit.ensures.accepted (new_learner 3) 2 0 b batch (grind (arith, nat_tests)) (c.values_fit.ensures.begins 3));
       window = c.window_holds.ensures.begins 3;
     };
-    waiting = record { some = omega arith; fits = omega arith; few = omega arith; characters = one_byte };
+    waiting = grind (arith, nat_tests);
   }
 
   n_backed : Backs sent (typed_key ∷ []) n
   n_backed = record {
     kept = record {
       votes = record { votes = λ s. tt; in_order = tt };
-      asked = λ c from mine said. asked_promised c from said;
-      own = λ c s v mine said. proposed_promised c s v said;
+      asked = λ c from mine said. grind (arith, nat_tests);
+      own = λ c s v mine said. grind (arith, nat_tests);
     };
     proposer = record { backed = p_backed; promised = refl };
     learner =
@@ -196,14 +164,4 @@ module _ (c : goal.After-window_holds) where
 
 -- it leads, with all that a node may know
 pub returns : goal.returns
-returns c = (
-  n,
-  sent,
-  typed_key ∷ [],
-  n_fits c,
-  n_backed c,
-  (refl, omega arith),
-  rw (get_here {X = Tally} empty 0 tally) refl,
-  omega arith,
-  omega arith,
-)
+returns c = search (rules, n_fits c, n_backed c, get_here {X = Tally} empty 0 tally)

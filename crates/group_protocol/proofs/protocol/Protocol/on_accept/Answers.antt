@@ -1,8 +1,6 @@
-use Rattle.paxos_msg.specs.Fits.{IsBallot, IsValue}
 use Rattle.group_protocol.proofs.protocol.Protocol.on_accept.Goals as goal
 
 pub put-requires-clause-body : goal.put-requires-clause-body
 put-requires-clause-body g c =
-    let ballot : IsBallot c.self.inside.me.group.size c.args.ballot = rw (← c.self.view_is) at c.requires.ballot in
-    let value : IsValue c.self.inside.me.group.size c.args.value = rw (← c.self.view_is) at c.requires.value in
-    rw c.in-Ok.ensures.answers.says (c.votes_fit.ensures.says _ _ _ _ _ _ c.self.invariant.1.ranges.kept ballot c.requires.place value)
+    let r = rw (← c.self.view_is) at c.requires in
+    rw c.in-Ok.ensures.answers.says (c.votes_fit.ensures.says _ _ _ _ _ _ c.self.invariant.1.ranges.kept r.ballot r.place r.value)

@@ -11,7 +11,7 @@ use Rattle.group_protocol.specs.Tick.{accepts_again, asks, on_tick, prepares_aga
 use Rattle.group_protocol.specs.WaitingKeys.{batch_of}
 use Rattle.group_protocol.specs.Calls.{Does}
 use Rattle.paxos_acceptor.specs.declared.me.Me.{Me}
-use Rattle.group_protocol.specs.Packets.{Datagram, Packet, datagram_of, datagrams_of, to_all, Queue}
+use Rattle.group_protocol.specs.Packets.{Datagram, Packet, datagrams_of, to_all, Queue}
 use Rattle.group_protocol.specs.Pump.{accepts_of, pump}
 use Rattle.group_protocol.specs.Ranges.{IsInRange}
 use Rattle.group_protocol.specs.States.{Protocol}
@@ -51,25 +51,11 @@ does_some : {S : Type 0} {inside old new : Protocol S} {before mid now : List Da
     → new.known ≡ record inside.known { proposer = Some q } → new.is_stopped ≡ inside.is_stopped
     → Does {S = S} {T = Unit {0}} old new before now (on_tick old.known) (Ok tt)
 does_some {inside = inside} {p = p} is last empty e one again rules same =
-    let n : Known = inside.known in
-    let first : List Packet = prepares_again p ++ accepts_again n.learner.learned p in
-    let pumped : List Packet = accepts_of (pump 16 p).made in
-    let sent =
-    last
-    ∙ ap (λ (l : List Datagram). l ++ datagrams_of n.me (asks n)) again
-    ∙ sym (map-append (datagram_of n.me) (first ++ pumped) (asks n))
-    ∙ ap (datagrams_of n.me) (append_assoc first pumped (asks n)) in
-    grind (arith, nat_tests)
+    grind (arith, map-append, append_assoc)
 
 pub returns-in_default-reserve-clause-does : goal.returns-in_default-reserve-clause-does
 returns-in_default-reserve-clause-does g c =
-    rw (← c.self.view_is) (record {
-      ok = tt;
-      sends = tt;
-      err = rw (c.in-Some.is, c.reserve.ensures.same) refl;
-      unsent = c.make_ready.ensures.packets;
-      stops = search rules;
-    })
+    grind arith
 
 pub ask-requires-clause-batch : goal.ask-requires-clause-batch
 ask-requires-clause-batch g c =
@@ -83,16 +69,10 @@ invariant_of-self-2 g c =
     elim c.match-self.branch [
       | in-Some+in-Ok w ↦
           let fits = c.what_goes_out_fits.ensures.tick _ i.1.ranges in
-          rw w.self-inside-is (
-            i.0,
-            record {
-              size = i.1.size;
-              ranges =
-                  ticked_ranges {p = w.in-Some.proposer.known} {q = w.pump.new.proposer.known} i.1.ranges fits.ranges
-                  (rw w.in-Some.is refl) (rw w.reserve.ensures.same at w.pump.ensures.known);
-              in_step = i.1.in_step;
-            },
-          )
+          let ranges =
+          ticked_ranges {p = w.in-Some.proposer.known} {q = w.pump.new.proposer.known} i.1.ranges fits.ranges
+          (rw w.in-Some.is refl) (rw w.reserve.ensures.same at w.pump.ensures.known) in
+          rw w.self-inside-is (i.0, record { size = i.1.size; ranges = ranges; in_step = i.1.in_step })
       | in_default w ↦ rw w.self-inside-is i
     ]
 

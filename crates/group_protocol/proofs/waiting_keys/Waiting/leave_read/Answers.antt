@@ -1,7 +1,7 @@
 use Rattle.std.proofs.Common.{◌≡◌, ◌+◌, ℕ, List, Some, true, false, IsTrue, drop, slice_get, sym, arith}
 use Rattle.std.proofs.lemmas.Bool.Decides.{nat_tests}
 use Rattle.paxos_msg.specs.Keys.{Key, keys_from}
-use Rattle.paxos_learner.specs.Input.{front_values, has_key, keys_in_order}
+use Rattle.paxos_learner.specs.Input.{has_key}
 use Rattle.group_protocol.specs.WaitingKeys.{count_read}
 use Rattle.group_protocol.proofs.Leaving.{IsLeaving}
 use Rattle.group_protocol.proofs.waiting_keys.Waiting.leave_read.Goals as goal
@@ -14,20 +14,10 @@ stay : {read : List Key} {node start was first byte : ℕ} {all : List ℕ} (byt
     × (first ≡ was + count_read read (keys_from node start was all))
 stay bytes h is none = grind (arith, nat_tests)
 
--- so it is where the loop ends
-stays : (c : goal.Then-not-has_read)
-    → let read = keys_in_order (front_values c.args.learner.now.learned) in
-    let count = count_read read (keys_from c.args.node c.args.start c.self.inside.first c.self.inside.bytes.items) in
-    (c.loop-byte.self-inside.bytes.items ≡ drop count c.self.inside.bytes.items)
-    × (c.loop-byte.self-inside.first ≡ c.self.inside.first + count)
-stays c =
+pub returns-then-not-has_read : goal.returns-then-not-has_read
+returns-then-not-has_read c =
     let first = sym (rw c.in-Some.is at c.front.ensures) in
-    stay c.loop-byte.self-inside.bytes.items c.loop-byte.invariant.2 first (λ found.
+    let stays = stay c.loop-byte.self-inside.bytes.items c.loop-byte.invariant.2 first (λ found.
     let e : false ≡ true = rw c.if-not-has_read.true at c.has_read.ensures.1 ((c.key_tests_are_exact.ensures.has _ _).0 found) in
-    absurd cc)
-
-pub returns-then-not-has_read-clause-bytes : goal.returns-then-not-has_read-clause-bytes
-returns-then-not-has_read-clause-bytes c = grind (arith, nat_tests, stays)
-
-pub returns-then-not-has_read-clause-first : goal.returns-then-not-has_read-clause-first
-returns-then-not-has_read-clause-first c = grind (arith, nat_tests, stays)
+    absurd cc) in
+    grind (arith, nat_tests, stays)

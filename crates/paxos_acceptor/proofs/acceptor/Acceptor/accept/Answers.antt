@@ -1,6 +1,5 @@
-use Rattle.std.proofs.Common.{◌≡◌, rules}
-use Rattle.paxos_msg.specs.Records.{with_vote}
-use Rattle.paxos_acceptor.proofs.ByCases.{no_greater}
+use Rattle.std.proofs.Common.{arith}
+use Rattle.std.proofs.lemmas.Bool.Decides.{nat_tests}
 use Rattle.paxos_acceptor.proofs.Ranges.{record_in_order, stored_in_order, vote_in_ranges}
 use Rattle.paxos_acceptor.proofs.acceptor.Acceptor.accept.Goals as goal
 
@@ -17,12 +16,4 @@ save_vote-saved-requires-clause-ascending g c =
 
 pub invariant_of-self-2 : goal.invariant_of-self-2
 invariant_of-self-2 g c =
-    let votes : c.new-2.result
-    ≡ with_vote c.self.inside.record.votes
-    (record { place = c.args.place; ballot = c.args.ballot; value = c.args.value }) = search rules in
-    record {
-      ranges =
-          rw votes (vote_in_ranges _ c.self.inside.record c.args.ballot c.args.place c.args.value
-          (no_greater _ _ (search rules)) (search rules) c.requires.place (search rules) c.self.invariant.ranges);
-      in_step = search rules;
-    }
+    grind (arith, nat_tests, vote_in_ranges)

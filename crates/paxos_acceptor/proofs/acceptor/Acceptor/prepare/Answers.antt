@@ -1,5 +1,5 @@
-use Rattle.std.proofs.Common.{rules}
-use Rattle.paxos_acceptor.proofs.ByCases.{no_greater}
+use Rattle.std.proofs.Common.{arith}
+use Rattle.std.proofs.lemmas.Bool.Decides.{nat_tests}
 use Rattle.paxos_acceptor.proofs.Ranges.{promise_in_ranges, record_in_order, record_within, stored_in_order}
 use Rattle.paxos_acceptor.proofs.acceptor.Acceptor.prepare.Goals as goal
 
@@ -13,7 +13,4 @@ pub save_to-requires-clause-ascending : goal.save_to-requires-clause-ascending
 save_to-requires-clause-ascending g c = λ h. stored_in_order _ _ _ c.self.invariant.ranges (c.self.invariant.in_step h c.if-self.false)
 
 pub invariant_of-self-2 : goal.invariant_of-self-2
-invariant_of-self-2 g c = record {
-  ranges = promise_in_ranges _ c.self.inside.record c.args.ballot (no_greater _ _ (search rules)) (search rules) c.self.invariant.ranges;
-  in_step = search rules;
-}
+invariant_of-self-2 g c = grind (arith, nat_tests, promise_in_ranges)
