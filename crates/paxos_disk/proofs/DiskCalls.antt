@@ -1,5 +1,6 @@
 -- What a restart may find while the calls of a save are made.
-use Rattle.std.proofs.Common.{◌≡◌, ◌⊎◌, ℕ, suc, true, false, Bool, if◌then◌else◌, List, [], ◌∷◌, ◌++◌, length, Option, Some, None, IsSomeAnd, Result, Ok, Err, OnOk, OnErr, inl, inr, refl, sym, ap, ◌∙◌, append-nil, ⊎_elim}
+use Rattle.std.proofs.Common.{◌≡◌, ◌⊎◌, ℕ, suc, true, false, Bool, if◌then◌else◌, List, [], ◌∷◌, ◌++◌, length, Option, Some, None, IsSomeAnd, Result, Ok, Err, OnOk, OnErr, inl, inr, refl, sym, ap, ◌∙◌, append-nil, ⊎_elim, arith}
+use Rattle.std.proofs.lemmas.Bool.Decides.{nat_tests}
 use Rattle.paxos_disk.specs.Disks.{Appends, Folder, IsLeft, IsOnDisk, MayFind, Remains, FileState, bytes_if, doubted, put, seen_in, on_disk, synced, with_fresh, unsynced}
 use Rattle.paxos_disk.specs.Puts.{IsGrown}
 use Rattle.paxos_disk.specs.Sectors.{torn}
@@ -8,13 +9,11 @@ use Rattle.paxos_acceptor.specs.Stores.{IsOneOf}
 -- ---- options and results
 
 pub some_and : {A : Type 0} (o : Option A) (P : A → Type 0) → IsSomeAnd o P → (x : A) × (o ≡ Some x) × P x
-some_and None P h = absurd h
-some_and (Some x) P h = (x, refl, h)
+some_and o x h = grind (arith, nat_tests)
 
 -- what holds after any answer
 pub on_err : {A E : Type 0} (result : Result A E) (P : Type 0) → P → OnErr result P
-on_err (Ok x) P p = tt
-on_err (Err e) P p = p
+on_err r x p = grind (arith, nat_tests)
 
 -- ---- what is seen may be found
 
@@ -59,10 +58,7 @@ module _ (old : Folder) (all : List ℕ) (h : IsOnDisk old all) (bytes : List �
 
   cut : (new : Folder) (is_sound : Bool) → new ≡ appended is_sound → (found : Option (List ℕ)) → MayFind new found
       → IsGrown (seen_in old) bytes found
-  cut new is_sound e found left = elim (rw (e, h.others) at left) [
-    | inl l ↦ rw (settled_seen old all h) l
-    | inr none ↦ absurd none
-  ]
+  cut new is_sound e found left = grind (arith, settled_seen old all h)
 
   -- it is synced, or not
   pub grown : {A E : Type 0} (result : Result A E) (new : Folder) → OnOk result (new ≡ record mid { file = synced mid.file })
@@ -123,11 +119,5 @@ synced_same (Some s) = elim s.is_sound as (λ t. let after = if t then Some (on_
 -- and the folder is synced, or not
 pub sync_remains : {A E : Type 0} (result : Result A E) (old mid new : Folder) → mid ≡ record old { file = synced old.file }
     → OnOk result (new ≡ record mid { others = [] }) → OnErr result (new ≡ mid) → Remains old new
-sync_remains (Ok x) old mid new e ok err = rw (ok, e) (record {
-  seen = (synced_same old.file).0;
-  left = λ found left. ⊎_elim (λ it. inl ((synced_same old.file).1 found it)) (λ none. absurd none) left;
-})
-sync_remains (Err x) old mid new e ok err = rw (err, e) (record {
-  seen = (synced_same old.file).0;
-  left = λ found left. ⊎_elim (λ it. inl ((synced_same old.file).1 found it)) (λ other. inr other) left;
-})
+sync_remains (Ok x) old mid new e ok err = grind (arith, synced_same old.file)
+sync_remains (Err x) old mid new e ok err = grind (arith, synced_same old.file)

@@ -1,5 +1,6 @@
 -- The forms of a file, and what a save makes of them.
 use Rattle.std.proofs.Common.{◌≡◌, ◌⊎◌, ℕ, ◌+◌, ◌<◌, ◌^◌, min, List, ◌++◌, length, slice_index, Option, Some, None, inl, inr, refl, sym, ap, ◌∙◌, append_assoc, arith}
+use Rattle.std.proofs.lemmas.Bool.Decides.{nat_tests}
 use Rattle.std.proofs.lemmas.List.{length-append}
 use Rattle.paxos_msg.specs.Batches.{Change, Record}
 use Rattle.paxos_msg.specs.Records.{changed, empty_record}
@@ -60,16 +61,13 @@ module _ (me : Me) (bytes : List ℕ) (P : Record → Type 0) where
 -- bytes that are a log of version 2 have no whole form
 pub not_whole : (me : Me) (bytes : List ℕ) (found : Record) (taken : ℕ) → LogFound me bytes found taken
     → (r : Record) → ¬ IsWholeForm me bytes r
-not_whole me bytes found taken log r (inl h) = log_or_record me (Torn (length bytes)) Two bytes found r taken log h
-not_whole me bytes found taken log r (inr (inl h)) = log_or_old_record me (Torn (length bytes)) Two bytes found r taken log h
-not_whole me bytes found taken log r (inr (inr h)) = logs (Torn (length bytes)) Cut me bytes found r taken h.0 log h.1
+not_whole me bytes found taken log r either = grind (arith, nat_tests)
 
 -- ---- what a save leaves
 
 -- a log that is written anew has the same record
 anew_log : (me : Me) (log : List ℕ) (r : Record) (bytes : List ℕ) → IsUncut me log r → IsAnew me log r bytes → IsUncut me bytes r
-anew_log me log r bytes uncut (inl same) = rw same uncut
-anew_log me log r bytes uncut (inr shorter) = shorter.0
+anew_log me log r bytes uncut either = grind (arith, nat_tests)
 
 -- a log that was appended to
 next_append : (me : Me) (bytes : List ℕ) (r : Record) (b : Ballot) (c : Change) (added : List ℕ) → IsRecord me.group.size r
@@ -135,9 +133,10 @@ module _ (stays : EntriesStay) where
 
   pub form_fits : (me : Me) (bytes : List ℕ) (r : Record) (form : Form) → IsFormIn me bytes r form → IsFiledAs me r form
   form_fits me bytes r Missing h = absurd h
-  form_fits me bytes r (Loaded kept m) h = (
+  form_fits me bytes r (Loaded kept m) h = grind (
+    arith,
     log_in_ranges stays (Torn (length bytes)) Two me bytes r h.0 h.1,
-    rw h.2 (kept_log (Torn (length bytes)) me bytes r h.0 h.1),
+    kept_log (Torn (length bytes)) me bytes r h.0 h.1,
   )
   form_fits me bytes r (Log n) h = (log_in_ranges stays Cut Two me bytes r (length bytes) h.0, tt)
   form_fits me bytes r (Whole n) h = (whole_in_ranges me bytes r h.0, tt)
@@ -147,7 +146,4 @@ module _ (stays : EntriesStay) where
       → IsPatch me r c form patch → IsFormAfter form patch after → length (patched bytes patch) < 2 ^ 64
       → IsFormIn me (patched bytes patch) (changed r c) after
   next me bytes r c form after patch known entry fits h is short =
-      elim (saved_as me bytes r c form after patch (form_fits me bytes r form known).0 known entry fits h is) [
-        | inl new ↦ rw new.0 new.1
-        | inr more ↦ rw more.at (more.in_form (rw more.at at short))
-      ]
+      grind (arith, saved_as me bytes r c form after patch (form_fits me bytes r form known).0 known entry fits h is)

@@ -1,11 +1,11 @@
 -- Entries of a log: what is read was written, and what is written is read.
-use Rattle.std.proofs.Common.{◌≡◌, ◌↔◌, ℕ, suc, nat_lt, List, [], ◌∷◌, ◌++◌, Ok, inl, inr, refl, arith}
-use Rattle.std.proofs.lemmas.Bool.{cases_eq, le-ltb, ltb-false, ne_eqb}
-use Rattle.base.proofs.Steps.{last_ok, ok_is}
+use Rattle.std.proofs.Common.{◌≡◌, ◌↔◌, ℕ, suc, List, [], ◌∷◌, ◌++◌, Ok, inl, inr, refl, arith}
+use Rattle.std.proofs.lemmas.Bool.Decides.{nat_tests}
+use Rattle.std.proofs.lemmas.Bool.{cases_eq, ne_eqb}
+use Rattle.base.proofs.Steps.{ok_is}
 use Rattle.paxos_msg.specs.declared.ballot.Ballot.{Ballot}
 use Rattle.paxos_msg.specs.Batches.{Change}
 use Rattle.paxos_msg.specs.declared.record.Change.TheVariants.{Start, Promise, Ballotted}
-use Rattle.paxos_msg.specs.declared.fault.WireFault.TheVariants as fault
 use Rattle.paxos_msg.specs.Fits.{IsPlace, IsValue, AreBytes}
 use Rattle.paxos_msg.specs.Reading.{place_at, value_at}
 use Rattle.paxos_msg.specs.Spelling.{ballot_bytes, number_bytes, value_bytes}
@@ -19,12 +19,7 @@ module _ (F : Fields) (V : (size : ℕ) → Exact (value_at size) (IsValue size)
   -- a place is read as it is spelled
   place_law : Exact (place_at 65535) IsPlace number_bytes
   unfolding place_at
-  place_law = record {
-    found = λ bytes p are e. step F.numbers bytes _ p are e (λ s rest small parts are e.
-        let t = last_ok fault.Place (nat_lt 65535 s) _ p e in
-        rw (← t.1) (ltb-false 65535 s t.0, parts));
-    again = λ s rest are h. rw (F.numbers.again s rest are (omega arith), le-ltb 65535 s h) refl;
-  }
+  place_law = grind arith
 
   -- the value of a vote that the version can spell
   value_law : (version : Version) (s : ℕ) (b : Ballot)
@@ -37,8 +32,7 @@ module _ (F : Fields) (V : (size : ℕ) → Exact (value_at size) (IsValue size)
 
   -- each version can spell a start and a promise
   for_other : (version : Version) → IsFor version Start × ((b : Ballot) → IsFor version (Promise b))
-  for_other One = (tt, λ b. tt)
-  for_other Two = (tt, λ b. tt)
+  for_other x = grind (arith, nat_tests)
 
   vote_found : (bytes : List ℕ) (p : Change × List ℕ) → AreBytes bytes → log_vote_at version size bytes ≡ Ok p
       → BeginsEntry version size (3 ∷ bytes) p.0 p.1

@@ -1,5 +1,6 @@
 -- Folding the entries of a log one after the other.
-use Rattle.std.proofs.Common.{◌≡◌, ◌∙◌, ℕ, ◌+◌, List, [], ◌∷◌, ◌++◌, length, inl, inr, refl, ap, sym, subst, append-nil, append_assoc, arith}
+use Rattle.std.proofs.Common.{◌≡◌, ℕ, ◌+◌, List, [], ◌∷◌, ◌++◌, length, inl, inr, refl, ap, sym, subst, append-nil, append_assoc, arith}
+use Rattle.std.proofs.lemmas.Bool.Decides.{nat_tests}
 use Rattle.std.proofs.lemmas.List.{length-append}
 use Rattle.paxos_msg.specs.Batches.{Change, Record}
 use Rattle.paxos_msg.specs.declared.record.Change.TheVariants.{Start, Promise, Ballotted}
@@ -36,8 +37,7 @@ whole (Torn total) version size bytes c rest b (inr h) = h.none c rest b
 
 -- nothing is over
 none_left : (ending : Ending) (version : Version) (size : ℕ) → IsLogEnd ending version size []
-none_left Cut version size = tt
-none_left (Torn total) version size = inl tt
+none_left x version size = grind (arith, nat_tests)
 
 module _ (ending : Ending) (version : Version) (size : ℕ) where
   -- ---- at the end
@@ -118,6 +118,4 @@ pub entries_of_log : (ending : Ending) (version : Version) (me : Me) (bytes xs :
     → bytes ≡ log_header version me ++ xs → LogBy ending version me bytes r n
     → (end : List ℕ) × Folds ending version me.group.size empty_record xs r end × (n + length end ≡ length bytes)
 entries_of_log ending version me bytes xs r n e h =
-    let both : log_header version me ++ h.0 ≡ log_header version me ++ xs = sym h.2 ∙ e in
-    let same : h.0 ≡ xs = cc in
-    (h.1, rw same at h.3, h.4)
+    grind arith

@@ -1,5 +1,5 @@
 -- A log grows by an entry; the rest of one that was cut is ignored.
-use Rattle.std.proofs.Common.{◌≡◌, ◌⊎◌, ◌∙◌, ℕ, zero, suc, ◌+◌, ◌*◌, ◌<◌, ◌≤◌, List, [], ◌∷◌, ◌++◌, length, take, drop, slice_index, Some, None, inl, inr, refl, ap, subst, sym, add-one, append-nil, append_assoc, arith}
+use Rattle.std.proofs.Common.{◌≡◌, ◌⊎◌, ◌∙◌, ℕ, zero, suc, ◌+◌, ◌*◌, ◌<◌, ◌≤◌, List, [], ◌∷◌, ◌++◌, length, take, drop, slice_index, Some, None, inl, inr, refl, ap, sym, add-one, append-nil, append_assoc, arith}
 use Rattle.std.proofs.lemmas.Bool.{cases_lt}
 use Rattle.std.proofs.lemmas.List.{drop-append-le, get_or_append_left, length-append, nil_from_length, replicate_more, take_at}
 use Rattle.paxos_msg.specs.Batches.{Change, Record}
@@ -18,7 +18,7 @@ use Rattle.paxos_disk.specs.Entries.{IsEntry, IsInRanges, entries_bytes, entry_b
 use Rattle.paxos_disk.specs.Files.{log_of_starts}
 use Rattle.paxos_disk.specs.Log.{Folds, IsFold, IsUncut, LogBy, LogIn, log_header}
 use Rattle.paxos_disk.specs.Padding.{again}
-use Rattle.paxos_acceptor.specs.Records.{AreKept, IsRecord}
+use Rattle.paxos_acceptor.specs.Records.{IsRecord}
 use Rattle.paxos_disk.specs.declared.version.Version.TheVariants.{Two}
 use Rattle.paxos_disk.proofs.LogFolds.{joined, lone, no_more}
 
@@ -78,8 +78,7 @@ uncut me bytes r h = let none = nil_from_length h.1 (omega (arith, h.4)) in rw n
 pub more_log : {ending : Ending} (me : Me) (bytes t : List ℕ) (r s : Record) (end : List ℕ) → IsUncut me bytes r
     → Folds ending Two me.group.size r t s end → (n : ℕ) → n + length end ≡ length (bytes ++ t) → LogBy ending Two me (bytes ++ t) s n
 more_log {ending} me bytes t r s end h fold n long =
-    let folds = joined ending Two me.group.size {other = Cut} empty_record h.0 h.3.0 r t s end (uncut me bytes r h) fold in
-    (h.0 ++ t, end, rw h.2 refl, folds, long)
+    grind (arith, joined ending Two me.group.size {other = Cut} empty_record h.0 h.3.0 r t s end (uncut me bytes r h) fold)
 
 pub new_log : (me : Me) → IsUncut me (log_header Two me) empty_record
 new_log me = ([], [], refl, no_more Cut Two me.group.size empty_record [] tt, omega arith)
@@ -116,16 +115,14 @@ promised_again r b e = λ i. record { starts = r.starts; promised = sym e i; vot
 
 pub may_promise_again : (size : ℕ) (r : Record) (b : Ballot) → IsRecord size r → r.promised ≡ Some b → IsEntry size r (Promise b)
 may_promise_again size r b h e =
-    let kept : AreKept size (Some b) r.votes = rw e at h.kept in
-    record { in_ranges = kept.0; next = rw e (grind arith) }
+    grind arith
 
 module _ (me : Me) (r : Record) (h : IsRecord me.group.size r) where
   -- one more promise of the promised ballot leaves a log of the same record
   once_more : (b : Ballot) → r.promised ≡ Some b → (bytes : List ℕ) → IsUncut me bytes r
       → IsUncut me (bytes ++ entry_bytes Two (Promise b)) r
   once_more b e bytes uncut =
-      subst (IsUncut me (bytes ++ entry_bytes Two (Promise b))) (promised_again r b e)
-      (grown_log me bytes r (Promise b) uncut (may_promise_again me.group.size r b h e))
+      grind (arith, grown_log me bytes r (Promise b) uncut (may_promise_again me.group.size r b h e))
 
   pub grown_again : (b : Ballot) → r.promised ≡ Some b → (n : ℕ) (bytes : List ℕ) → IsUncut me bytes r
       → IsUncut me (bytes ++ entries_bytes Two (again b n)) r
@@ -156,8 +153,7 @@ again_long b (suc n) = omega (arith, length-append (entry_bytes Two (Promise b))
 pub again_more : (b : Ballot) (n : ℕ) → entries_bytes Two (again b (suc n)) ≡ entries_bytes Two (again b n) ++ entry_bytes Two (Promise b)
 again_more b zero = refl
 again_more b (suc n) =
-    ap (λ (l : List ℕ). entry_bytes Two (Promise b) ++ l) (again_more b n)
-    ∙ sym (append_assoc (entry_bytes Two (Promise b)) (entries_bytes Two (again b n)) (entry_bytes Two (Promise b)))
+    grind (arith, again_more b n)
 
 module _ (me : Me) (r : Record) (c : Change) (h : IsRecord me.group.size r) (entry : IsEntry me.group.size r c) where
   -- promises made again and the entry, or a beginning of them
@@ -165,8 +161,7 @@ module _ (me : Me) (r : Record) (c : Change) (h : IsRecord me.group.size r) (ent
       → entries_bytes Two (again b n) ++ entry_bytes Two c ≡ xs ++ ys
       → ((n : ℕ) × LogIn Two me (bytes ++ xs) r n) ⊎ IsUncut me (bytes ++ xs) (changed r c)
   cut_again b p zero bytes xs [] uncut e =
-      let whole : xs ≡ entry_bytes Two c = sym (e ∙ append-nil xs) in
-      inr (rw whole (grown_log me bytes r c uncut entry))
+      grind (arith, append-nil xs, grown_log me bytes r c uncut entry)
   cut_again b p zero bytes xs (y ∷ ys) uncut e = inl (length bytes, cut_log me bytes r c xs (y ∷ ys) uncut entry e (omega arith))
   cut_again b p (suc n) bytes xs ys uncut e =
       let first = entry_bytes Two (Promise b) in
@@ -192,6 +187,4 @@ starts_log me (suc n) le =
 -- before a ballot is promised there are starts alone
 pub started_log : (me : Me) (r : Record) → IsRecord me.group.size r → r.promised ≡ None → IsUncut me (log_of_starts me r.starts) r
 started_log me r h none =
-    let no_votes : r.votes ≡ [] = rw none at h.kept in
-    let same : started r.starts ≡ r = λ i. record { starts = r.starts; promised = sym none i; votes = sym no_votes i } in
-    subst (IsUncut me (log_of_starts me r.starts)) same (starts_log me r.starts (omega (arith, h.starts)))
+    grind (arith, starts_log me r.starts (omega (arith, h.starts)))

@@ -56,8 +56,7 @@ module _ (stays : EntriesStay) where
       → LogBy ending version me bytes r n
       → IsRecord me.group.size r
   log_in_ranges ending version me bytes r n h =
-      rw h.3.1.all
-      (folded_in_ranges version me.group.size empty_record h.3.0 (record { starts = omega arith; kept = refl }) h.3.1.entries)
+      grind (arith, folded_in_ranges version me.group.size empty_record h.3.0 (record { starts = omega arith; kept = refl }) h.3.1.entries)
 
   pub read_in_ranges : (ending : Ending) (version : Version) (me : Me) (bytes : List ℕ) (read : Result (Record × ℕ) StoreFault)
       → IfOk read (λ x. LogBy ending version me bytes x.0 x.1) → IfOk read (λ x. IsRecord me.group.size x.0)

@@ -1,7 +1,7 @@
 -- The record of a file's bytes is the one that a load reads.
 use Rattle.std.proofs.Common.{◌≡◌, ◌↔◌, ℕ, zero, suc, ◌<◌, ◌≤◌, ◌^◌, List, [], ◌∷◌, ◌++◌, append_assoc, drop, length, Option, Some, None, Ok, Err, inl, inr, refl, sym, ap, subst, ◌∙◌, arith, length-append}
+use Rattle.std.proofs.lemmas.Bool.Decides.{nat_tests}
 use Rattle.paxos_msg.specs.Batches.{Change, Record}
-use Rattle.paxos_msg.specs.declared.record.Change.TheVariants.{Start, Promise, Ballotted}
 use Rattle.paxos_msg.specs.Fits.{AreBytes}
 use Rattle.paxos_msg.specs.Records.{changed, empty_record}
 use Rattle.paxos_acceptor.specs.declared.me.Me.{Me}
@@ -45,9 +45,7 @@ module _ (F : Readings) (ending : Ending) (version : Version) (size : ℕ) where
 
   -- each entry has a byte
   one_byte : (c : Change) → 0 < length (entry_bytes version c)
-  one_byte Start = omega arith
-  one_byte (Promise b) = omega arith
-  one_byte (Ballotted s b v) = omega arith
+  one_byte x = grind (arith, nat_tests)
 
   few : (cs : List Change) → length cs ≤ length (entries_bytes version cs)
   few [] = omega arith
@@ -75,10 +73,7 @@ module _ (F : Readings) (me : Me) (session : me.group.session < 2 ^ 32) (bytes :
   not_read : (version : Version) (other : Record) → ((s : Record) → ¬ (record_at version me bytes ≡ Ok s))
       → read_or (record_at version me bytes) other ≡ other
   not_read version other none =
-      (elim (record_at version me bytes) as (λ read. record_at version me bytes ≡ read → read_or read other ≡ other) [
-        | Err e ↦ λ is. refl
-        | Ok s ↦ λ is. absurd (none s is)
-      ]) refl
+      grind arith
 
   no_record : (ending : Ending) (version : Version) (r : Record) (n : ℕ) → LogBy ending version me bytes r n
       → record_in me (Some bytes) ≡ log_record me bytes
@@ -100,8 +95,7 @@ module _ (F : Readings) (me : Me) (session : me.group.session < 2 ^ 32) (bytes :
       (others_of bytes (log_header version me) (entries ++ h.1) are e) fold.entries fold.ends) ∙ sym fold.all
     where
       version_is : (version : Version) (entries : List ℕ) → bytes ≡ log_header version me ++ entries → version_in bytes ≡ version
-      version_is One entries e = ap version_in e
-      version_is Two entries e = ap version_in e
+      version_is x entries e = grind (arith, nat_tests)
 
   record_is : (r : Record) → IsWritten me bytes r → record_in me (Some bytes) ≡ r
   record_is r (inl (inl h)) = rw ((F.two me bytes r session are).1 h) refl

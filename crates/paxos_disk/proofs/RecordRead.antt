@@ -1,9 +1,10 @@
 -- The law: bytes are read as a record in a version just where they are its spelling in it.
 use Rattle.std.proofs.Common.{◌≡◌, ◌↔◌, ℕ, ◌<◌, ◌≤◌, ◌^◌, eqb, not, ◌&&◌, List, [], ◌∷◌, ◌++◌, length, Option, Some, None, IfSome, Result, Ok, inl, inr, refl, ◌∙◌, sym, append_assoc, arith}
-use Rattle.std.proofs.lemmas.Bool.{and_parts, cases_eq, eq-eqb, eqb-true, ne_eqb, not-false}
+use Rattle.std.proofs.lemmas.Bool.Decides.{nat_tests}
+use Rattle.std.proofs.lemmas.Bool.{and_parts, cases_eq, eqb-true, ne_eqb, not-false}
 use Rattle.std.proofs.lemmas.List.{append-nil, nil_from_length}
 use Rattle.base.specs.Steps.{◌>>=◌}
-use Rattle.base.proofs.Steps.{last_ok, ok_is, pass_ok}
+use Rattle.base.proofs.Steps.{last_ok, ok_is}
 use Rattle.paxos_msg.specs.declared.ballot.Ballot.{Ballot}
 use Rattle.paxos_msg.specs.Batches.{Record, Vote}
 use Rattle.paxos_msg.specs.declared.fault.WireFault.{WireFault}
@@ -35,8 +36,7 @@ votes_text Two votes = votes_bytes votes
 
 -- no votes have no spelling
 none : (version : Version) → AreFor version [] × (votes_text version [] ≡ [])
-none One = (λ k d lt. absurd (omega arith), refl)
-none Two = (tt, refl)
+none x = grind (arith, nat_tests)
 
 -- the parts of a record in order
 abbrev text : Version → Me → Record → List ℕ
@@ -54,10 +54,7 @@ record IsText (version : Version) (me : Me) (bytes : List ℕ) (r : Record) : Ty
 -- ---- the parts
 
 byte_found : (byte : ℕ) (bytes rest : List ℕ) → after_byte byte bytes ≡ Ok rest → bytes ≡ byte ∷ rest
-byte_found byte [] rest e = absurd cc
-byte_found byte (x ∷ bytes) rest e =
-    let h = pass_ok (eqb x byte) fault.Magic (Ok bytes) rest e in
-    rw (eqb-true x byte h.0, ok_is bytes rest h.1) refl
+byte_found byte xs rest e = grind (arith, nat_tests)
 
 -- what follows where the first step takes a byte
 byte_step : {B G : Type 0} (byte : ℕ) (bytes : List ℕ) (next : List ℕ → Result B WireFault) (y : B) → AreBytes bytes
@@ -69,8 +66,7 @@ byte_step byte bytes next y are e goal =
 
 -- what is kept beside a promised ballot has that in its ranges
 kept_promise : (size : ℕ) (p : Option Ballot) (votes : List Vote) → AreKept size p votes → IfSome p (IsBallot size)
-kept_promise size None votes h = tt
-kept_promise size (Some b) votes h = h.0
+kept_promise size o votes h = grind (arith, nat_tests)
 
 module _ (F : Fields) where
   -- votes are read as they are spelled
@@ -88,11 +84,7 @@ module _ (F : Fields) where
   unfolding promised_at
   promised_again size None rest are h = rw (F.numbers.again 0 (0 ∷ rest) are (omega arith)) refl
   promised_again size (Some b) rest are h =
-      rw (
-        F.numbers.again b.round (b.node ∷ rest) are (omega (arith, h.0.1)),
-        ne_eqb b.round 0 (λ z. omega (arith, h.0.0)),
-        (F.ballots size).again b rest are h,
-      ) refl
+      grind arith
 
   -- a promised ballot, or none, is read as it is spelled
   promised_law : (size : ℕ) → Exact (promised_at size) (λ p. IfSome p (IsBallot size)) promised_bytes
@@ -126,8 +118,7 @@ module _ (F : Fields) (version : Version) (me : Me) where
       → record_header_at version me (record_header (version_byte version) me ++ rest) ≡ Ok rest
   unfolding record_header_at
   header_again rest small are =
-      let later = others (80 ∷ 82 ∷ version_byte version ∷ me.node ∷ me.group.size ∷ []) (number_bytes me.group.session ++ rest) are in
-      simp (eq-eqb, F.numbers.again me.group.session rest later small)
+      grind arith
 
   votes_found : (n : ℕ) (p : Option Ballot) (bytes : List ℕ) (votes : List Vote) → AreBytes bytes
       → IfSome p (IsBallot me.group.size) → votes_of version me.group.size p n bytes ≡ Ok votes
@@ -147,9 +138,7 @@ module _ (F : Fields) (version : Version) (me : Me) where
       → AreFor version votes → votes_of version me.group.size p (length votes) (votes_text version votes) ≡ Ok votes
   votes_again None votes are h is_for = rw (h, (none version).1) refl
   votes_again (Some b) votes are h is_for =
-      let nil = append-nil (votes_text version votes) in
-      let read = (votes_law F version me.group.size (length votes) b).again votes [] (rw nil are) (h.1, is_for, refl) in
-      rw (rw nil at read) refl
+      grind (arith, append-nil (votes_text version votes), votes_law F version me.group.size (length votes) b)
 
   record_found : (bytes : List ℕ) (r : Record) → AreBytes bytes → record_at version me bytes ≡ Ok r → IsText version me bytes r
   unfolding record_at head_at

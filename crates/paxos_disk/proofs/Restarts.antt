@@ -1,5 +1,6 @@
 -- What a restart reads while a change is saved.
 use Rattle.std.proofs.Common.{◌≡◌, ◌⊎◌, ℕ, ◌<◌, ◌^◌, List, [], ◌++◌, length, Option, Some, None, IfSome, IsNone, Vec, Global, inl, inr, refl, sym, ap, ◌∙◌, ⊎_elim, arith}
+use Rattle.std.proofs.lemmas.Bool.Decides.{nat_tests}
 use Rattle.paxos_msg.specs.Batches.{Change, Record}
 use Rattle.paxos_msg.specs.Fits.{AreBytes}
 use Rattle.paxos_msg.specs.Records.{changed, empty_record}
@@ -18,15 +19,12 @@ use Rattle.paxos_acceptor.specs.Records.{IsRecord}
 use Rattle.paxos_acceptor.specs.Stores.{IsOneOf}
 use Rattle.paxos_disk.proofs.DiskCalls.{seen_is_left, settled_left, settled_seen}
 use Rattle.paxos_disk.proofs.Forms.{IsAdded, IsReplaced, first, saved_as}
-use Rattle.paxos_disk.proofs.TornAppends.{are_both, are_torn, cut_found, torn_append}
+use Rattle.paxos_disk.proofs.TornAppends.{are_both, are_torn, torn_append}
 
 -- ---- what is read
 
 form_written : (me : Me) (bytes : List ℕ) (r : Record) (form : Form) → IsFormIn me bytes r form → IsWritten me bytes r
-form_written me bytes r Missing h = absurd h
-form_written me bytes r (Loaded kept m) h = inr (h.0, h.1)
-form_written me bytes r (Log n) h = inr (length bytes, cut_found me bytes r (length bytes) h.0)
-form_written me bytes r (Whole n) h = inl h.0
+form_written me bytes r x h = grind (arith, nat_tests)
 
 pub form_reads : (me : Me) (o : Option (List ℕ)) (r : Record) (form : Form) → IsFormOfSeen me o r form → IsGood me o → Reads me o r
 form_reads me None r form h good = h.0
@@ -61,10 +59,7 @@ module _ (me : Me) where
   -- the form of what was read is the form of what is seen
   pub read_form : (o : Option (List ℕ)) (v : Option (Vec ℕ Global)) (r : Record) (form : Form) → IsContent o v
       → (IsNone v → (r ≡ empty_record) × (form ≡ Missing)) → IfSome v (λ bytes. IsFormIn me bytes.items r form) → IsFormOfSeen me o r form
-  read_form None None r form content none some = none refl
-  read_form None (Some v) r form content none some = absurd content
-  read_form (Some bytes) None r form content none some = absurd content
-  read_form (Some bytes) (Some v) r form content none some = rw content at some
+  read_form o p r form content none some = grind (arith, nat_tests)
 
 -- ---- a save
 
@@ -92,8 +87,7 @@ module _ (me : Me) (old : Folder) (r : Record) (c : Change) (form : Form) (patch
       → IsReplaced me (changed r c) patch after ⊎ ((all : List ℕ) × (o ≡ Some all) × AreBytes all × IsAdded me all r c patch after)
   saves None form after h good is then = inl (first me r c patch after h.0 entry (rw h.1 at is) (rw h.1 at then))
   saves (Some all) form after h good is then =
-      ⊎_elim (λ new. inl new) (λ more. inr (all, refl, good.1.0, more))
-      (saved_as me all r c form after patch known_fits h entry fits is then)
+      grind (arith, saved_as me all r c form after patch known_fits h entry fits is then)
 
   save : (after : Form) → IsFormAfter form patch after → IsReplaced me (changed r c) patch after
       ⊎ ((all : List ℕ) × (seen_in old ≡ Some all) × AreBytes all × IsAdded me all r c patch after)

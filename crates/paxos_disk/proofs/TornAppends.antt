@@ -15,7 +15,7 @@ use Rattle.paxos_acceptor.specs.declared.me.Me.{Me}
 use Rattle.paxos_disk.specs.declared.version.Version.TheVariants.{Two}
 use Rattle.paxos_disk.specs.Ending.{AreZeros, HasLost}
 use Rattle.paxos_disk.specs.Entries.{BeginsEntry, IsEntry, IsInRanges, entries_bytes, entry_bytes}
-use Rattle.paxos_disk.specs.Log.{Folds, IsUncut, LogFound, LogIn}
+use Rattle.paxos_disk.specs.Log.{Folds, IsUncut, LogFound}
 use Rattle.paxos_disk.specs.Padding.{IsAmbiguousAt, IsAppended, IsInSectors, again}
 use Rattle.paxos_acceptor.specs.Records.{IsRecord}
 use Rattle.paxos_acceptor.specs.Stores.{IsOneOf}
@@ -78,8 +78,7 @@ module _ (lost : ℕ → Bool) where
   torn_both : (at : ℕ) (xs ys : List ℕ) → torn lost at (xs ++ ys) ≡ torn lost at xs ++ torn lost (at + length xs) ys
   torn_both at [] ys = ap (λ (n : ℕ). torn lost n ys) (omega arith)
   torn_both at (x ∷ xs) ys =
-      ap (λ (l : List ℕ). (if lost (sector_of at) then 0 else x) ∷ l)
-      (torn_both (suc at) xs ys ∙ ap (λ (n : ℕ). torn lost (suc at) xs ++ torn lost n ys) (omega arith))
+      grind (arith, torn_both (suc at) xs ys)
 
   module _ (at : ℕ) (xs : List ℕ) (short : length xs ≤ 512) where
     -- the bytes up to a sector are as they were written, and zeros behind them
@@ -107,8 +106,7 @@ module _ (lost : ℕ → Bool) where
     all_second : (t : Bool) → lost (sector_of at + 1) ≡ t → (i : ℕ) → at + length front ≤ i → i < at + length front + length back
         → lost (sector_of i) ≡ t
     all_second t e i le lt =
-        let next : sector_of i ≡ sector_of at + 1 = omega (arith, length-take (to_edge at) xs, length-drop (to_edge at) xs) in
-        rw next e
+        grind (arith, length-take (to_edge at) xs, length-drop (to_edge at) xs)
 
     -- the first sector is not lost
     first_kept : lost (sector_of at) ≡ false → torn lost at xs ≡ front ++ torn lost (at + length front) back
@@ -172,8 +170,7 @@ module _ (size : ℕ) (us vs : List ℕ) (m : ℕ) (some : 0 < length us) (more 
       → (us ++ zeros m ≡ entry_bytes Two c) ⊎ NoEntry size (us ++ zeros m)
   torn_one Start fits e not = absurd (omega (arith, total us vs e))
   torn_one (Promise b) fits e not =
-      let first = same_at (entry_bytes Two (Promise b)) us vs (zeros m) e 0 some in
-      inr (no_entry size (us ++ zeros m) (λ can. omega (arith, can, first, behind us m 5 (omega (arith, total us vs e)))))
+      grind (arith, same_at (entry_bytes Two (Promise b)) us vs (zeros m) e 0 some, behind us m 5 (omega (arith, total us vs e)))
   torn_one (Ballotted s b Noop) fits e not =
       let first = same_at (entry_bytes Two (Ballotted s b Noop)) us vs (zeros m) e 0 some in
       elim (cases_lt (length us) 10) [
@@ -221,14 +218,10 @@ module _ (size all : ℕ) (r : Record) (c : Change) (entry : IsEntry size r c) w
       rw (nil_from_length us none)
       (inl (omega (arith, length-replicate {A = ℕ} m 0), All-take (λ (byte : ℕ). byte ≡ 0) (to_edge at) (zeros m) (are_zeros m)))
   lost_behind at us m more (inr edge) =
-      let back : drop (to_edge at) (us ++ zeros m) ≡ zeros m = rw (← edge) (drop-append_seam us (zeros m)) in
-      inr (omega (arith, edge, length-append us (zeros m), length-replicate {A = ℕ} m 0), rw back (are_zeros m))
+      grind (arith, drop-append_seam us (zeros m), length-append us (zeros m), length-replicate {A = ℕ} m 0, are_zeros m)
 
   next_edge : (at : ℕ) (us q : List ℕ) → length us ≡ 6 + length q → EndsAtEdge at us → EndsAtEdge (at + 6) q
-  next_edge at us q count edge = elim (cases_lt 0 (length q)) [
-    | inl some ↦ inr (omega (arith, count, edge))
-    | inr none ↦ inl (omega arith)
-  ]
+  next_edge at us q count edge = grind arith
 
   module _ (b : Ballot) (fits : IsRecord size r) (p : r.promised ≡ Some b) where
     -- a promise of the promised ballot changes nothing
@@ -275,11 +268,6 @@ module _ (size all : ℕ) (r : Record) (c : Change) (entry : IsEntry size r c) w
 
 -- ---- a log
 
--- a log is one with such an end too
-pub cut_found : (me : Me) (bytes : List ℕ) (r : Record) (n : ℕ) → LogIn Two me bytes r n → LogFound me bytes r n
-cut_found me bytes r n h =
-    (h.0, h.1, h.2, (h.3.0, record { entries = h.3.1.entries; spelled = h.3.1.spelled; ends = inl h.3.1.ends; all = h.3.1.all }), h.4)
-
 -- what leads on from a log leads to a log
 found_log : (me : Me) (bytes t : List ℕ) (r s : Record) (end : List ℕ) → IsUncut me bytes r
     → Folds (Torn (length (bytes ++ t))) Two me.group.size r t s end → (n : ℕ) × LogFound me (bytes ++ t) s n
@@ -301,17 +289,20 @@ module _ (me : Me) (r : Record) (c : Change) (b : Ballot) (fits : IsRecord me.gr
 
   short : length xs ≤ 89
   short =
-      let parts = total (entries_bytes Two (again b a.times)) (entry_bytes Two c) a.spelled in
-      omega (arith, parts, length-append xs ys, again_long b a.times, short_entry me.group.size c entry.in_ranges, a.few)
+      grind (
+        arith,
+        total (entries_bytes Two (again b a.times)) (entry_bytes Two c) a.spelled,
+        length-append xs ys,
+        again_long b a.times,
+        short_entry me.group.size c entry.in_ranges,
+      )
 
   read_right : Leads me.group.size all r c entry left → IsReadRight left
   read_right (made, end, inl old, folds) = inl (found_log me bytes left r r end h (rw old at folds))
   read_right (made, end, inr new, folds) = inr (found_log me bytes left r (changed r c) end h (rw new at folds))
 
   as_written : IsReadRight xs
-  as_written = ⊎_elim (λ cut. inl (cut.0, cut_found me (bytes ++ xs) r cut.0 cut.1))
-      (λ done. inr (length (bytes ++ xs), cut_found me (bytes ++ xs) (changed r c) (length (bytes ++ xs)) done))
-      (cut_again me r c fits entry b p a.times bytes xs ys h (sym a.spelled))
+  as_written = grind (arith, cut_again me r c fits entry b p a.times bytes xs ys h (sym a.spelled))
 
   pub torn_append : IsReadRight left
   torn_append = elim (torn_cases lost (length bytes) xs (omega (arith, short))) [

@@ -127,8 +127,7 @@ module _ {size : ℕ} {b : Ballot} {count : ℕ} {bytes : List ℕ} {votes : Lis
   unfolding votes_at_v1
   one_more {left = zero} h e k = absurd (omega (arith, e))
   one_more {left = suc n} {less} {v} {after} h e k =
-      let same : less ≡ n = omega (arith, e) in
-      record { same = h.same ∙ rw (k, same) (joins votes v (votes_at_v1 size b (v.place + 1) n after)) }
+      grind (arith, joins votes v (votes_at_v1 size b (v.place + 1) n after))
 
   -- the next vote has a fault
   pub fault_next : {left : ℕ} {e : WireFault} → LeadsTo size b count bytes votes low left rest → 0 < left

@@ -50,10 +50,7 @@ module _ (sent : Sent) (l : Learner) where
   told_backed s v h told = told_by (IsLearnerBacked sent) l h s v (λ here. learn_backed s v h (inl told))
 
 pub backed_later : (sent next : Sent) (l : Learner) → Stays sent next → IsLearnerBacked sent l → IsLearnerBacked next l
-backed_later sent next l later h = record {
-  tallied = λ s t e i member. later.stays i (Accepted t.ballot s t.value) (h.tallied s t e i member);
-  learned = λ s v e. grind (arith, nat_tests, h.learned s v e);
-}
+backed_later sent next l later h = grind arith
 
 pub begun_backed : (sent : Sent) (size : ℕ) → IsLearnerBacked sent (new_learner size)
 begun_backed sent size = record { tallied = λ s t e. grind (arith, get-empty); learned = λ s v e. grind (arith, get-empty) }

@@ -1,5 +1,5 @@
 -- The front: there is one least place that isn't learned, and the definition finds it.
-use Rattle.std.proofs.Common.{◌≡◌, ◌∙◌, ℕ, ◌+◌, ◌<◌, ◌≤◌, Bool, true, false, ◌&&◌, T, List, [], ◌∷◌, map, None, Some, is_some, arith}
+use Rattle.std.proofs.Common.{◌≡◌, ◌∙◌, ℕ, ◌+◌, ◌<◌, ◌≤◌, Bool, true, ◌&&◌, T, List, [], ◌∷◌, map, None, Some, is_some, arith}
 use Rattle.std.specs.Ordering.{nat_cmp}
 use Rattle.std.specs.FinMap.{FinMap, entries, entries_sorted, find, is_sorted, get-entries}
 use Rattle.std.specs.FinMap.Entries.{below_all}
@@ -9,8 +9,7 @@ use Rattle.paxos_learner.specs.Learner.{first_missing, front_of, IsFront}
 
 -- what a test of two tests says
 pub both_hold : (a b : Bool) → T (a && b) → T a × T b
-both_hold true b h = (tt, h)
-both_hold false b h = absurd h
+both_hold a b h = grind (arith, nat_tests)
 
 -- what is found among entries after place x is at a place above it
 pub found_above : (x q : ℕ) (es : List (ℕ × Value)) (v : Value) → T (below_all nat_cmp x es) → find nat_cmp q es ≡ Some v → x < q
@@ -35,14 +34,7 @@ first_is_missing s [] sorted from = grind arith
 first_is_missing s (e ∷ es) sorted from =
     let parts : T (below_all nat_cmp e.0 es) × T (is_sorted nat_cmp es) = both_hold _ _ sorted in
     let rest = first_is_missing (e.0 + 1) es parts.1 (λ q v found. omega (arith, found_above e.0 q es v parts.0 found)) in
-    grind (
-      arith,
-      nat_tests,
-      from e.0 e.1,
-      rest,
-      from_start (s + 1) (map (λ f. f.0) es),
-      λ (v : Value). found_above e.0 s es v parts.0,
-    )
+    grind (arith, from e.0 e.1, from_start (s + 1) (map (λ f. f.0) es), λ (v : Value). found_above e.0 s es v parts.0)
 
 -- what the definition finds is the front
 pub IsFront-front_of : (m : FinMap nat_cmp Value) → IsFront m (front_of m)

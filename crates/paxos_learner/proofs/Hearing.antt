@@ -69,11 +69,7 @@ module _ (learned : FinMap nat_cmp Value) (s : ℕ) (v : Value) (none : get lear
 
   pub insert_in_window : s ≤ 65535 → s < front_of learned + 1024 → AreInWindow learned → AreInWindow (insert learned s v)
   insert_in_window place near h =
-      let rises = front_rises learned (insert learned s v) insert_more in
-      record {
-        place = λ q w e. grind (arith, nat_tests, get_put learned s v q, h.place q);
-        window = λ q w e. grind (arith, nat_tests, get_put learned s v q, h.window q);
-      }
+      grind (arith, front_rises, get_put)
 
 module _ (l : Learner) (s : ℕ) (v : Value) where
   learn_in_window : s ≤ 65535 → AreInWindow l.learned → IsTrue (is_open l s) → AreInWindow (learn l s v).learner.learned

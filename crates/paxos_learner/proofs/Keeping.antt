@@ -43,12 +43,7 @@ module _ (ends more : List ℕ) (last : ℕ) (is : more ≡ ends ++ last ∷ [])
 pub counted_more : (keys new : List Key) (ends more : List ℕ) (v : Value) → IsCounted keys ends → length ends < 65536
     → new ≡ keys_with keys v → length new ≤ length keys + 32 → more ≡ ends ++ length new ∷ [] → IsCounted new more
 counted_more keys new ends more v h small now few is =
-    let one = longer ends more (length new) is in
-    record {
-      few = omega (arith, one, h.few);
-      within = ends_within ends more (length new) is (length keys) (rw now (no_fewer keys v)) h.within;
-      small = omega (arith, one);
-    }
+    grind (arith, longer ends more (length new) is, ends_within ends more (length new) is (length keys) (rw now (no_fewer keys v)) h.within)
 
 -- ---- a place is learned
 
@@ -62,15 +57,7 @@ module _ (learned : FinMap nat_cmp Value) (e new : Entered) (s : ℕ) (v : Value
   -- the input is that of the map with this place more, once there is room for it
   pub input_of_more : new.keys ≡ e.keys → new.ends ≡ e.ends → e.room ≤ new.room → e.key_room ≤ new.key_room
       → s < length e.ends + new.room → 32 * (s + 1) ≤ new.key_room + 32 * length e.ends → s < 65536 → IsInputOf (insert learned s v) new
-  input_of_more keys ends room key_room there keys_there small = record {
-    below = λ q low. grind (arith, nat_tests, get_put learned s v q, h.below q);
-    keys = grind (arith, same_values (length e.ends));
-    within = λ q low. grind (arith, h.within q);
-    ends = λ q low. grind (arith, h.ends q, same_values (q + 1));
-    room = λ q is. grind (arith, nat_tests, get_put learned s v q, h.room q);
-    key_room = λ q is. grind (arith, nat_tests, get_put learned s v q, h.key_room q);
-    small = λ q is. grind (arith, nat_tests, get_put learned s v q, h.small q);
-  }
+  input_of_more keys ends room key_room there keys_there small = grind (arith, get_put, same_values)
 
 -- ---- the front rises
 
@@ -114,8 +101,7 @@ module _ (learned : FinMap nat_cmp Value) (e : Entered) (h : IsInputOf learned e
   count_below_keys : (place : ℕ) → take (count_below e place) e.keys ≡ keys_in_order (values_below learned (min place (length e.ends)))
   count_below_keys zero = grind arith
   count_below_keys (suc s) =
-      let whole : take (length e.keys) e.keys ≡ e.keys = take_all (length e.keys) e.keys (omega arith) in
-      grind (arith, nat_tests, whole, h.keys, h.ends s)
+      grind (arith, take_all (length e.keys) e.keys (omega arith))
 
   -- the input up to a place, and what comes after it, are the input
   pub input_parts : (place : ℕ) → input_of (values_below learned (min place (length e.ends)))

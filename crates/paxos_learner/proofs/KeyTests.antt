@@ -4,7 +4,7 @@ use Rattle.std.specs.Prelude.{Contains}
 use Rattle.std.proofs.lemmas.Bool.{not_from_false}
 use Rattle.std.proofs.lemmas.List.{append-nil}
 use Rattle.std.proofs.lemmas.List.Concat.{flat_map-append}
-use Rattle.std.proofs.lemmas.List.Elements.{filter-append, Contains-append_left, Contains-append_right, Contains-append_cases, Contains-push, Contains-push_cases}
+use Rattle.std.proofs.lemmas.List.Elements.{filter-append, Contains-append_left, Contains-append_right, Contains-append_cases, Contains-push_cases}
 use Rattle.std.proofs.lemmas.Map.Views.{any-filter_same, Contains-from_any, list_any-from_Contains}
 use Rattle.std.specs.Cmp.{IsEquivalence}
 use Rattle.std.specs.List.{list_any, flat_map}
@@ -42,7 +42,6 @@ module _ {K : Type 0} (eq : K → K → Bool) where
   insert_after_first laws x k keys =
       grind (
         arith,
-        laws.symm k x,
         filter-append (λ other. not (eq x other)) keys (k ∷ []),
         append-nil (filter (λ other. not (eq x other)) keys),
         λ (e : eq x k ≡ false). any-filter_same (eq k) (λ other. not (eq x other)) true
@@ -66,8 +65,7 @@ found keys k = (Contains-from_any (λ x y. (same_keys x y).0) k keys, list_any-f
 pub firsts_push : (keys : List Key) (k : Key) → firsts (keys ++ k ∷ []) ≡ insert_key same_key (firsts keys) k
 firsts_push [] k = refl
 firsts_push (x ∷ keys) k =
-    ap (λ (rest : List Key). x ∷ filter (λ other. not (same_key x other)) rest) (firsts_push keys k)
-    ∙ insert_after_first same_key same_equiv x k (firsts keys)
+    grind (arith, firsts_push keys k, insert_after_first same_key same_equiv x k (firsts keys))
 
 -- the keys of a list more, one after another
 firsts_all : (keys more : List Key) → firsts (keys ++ more) ≡ insert_all same_key (firsts keys) more
@@ -103,10 +101,7 @@ insert_from keys k other =
 pub entered_from : (keys more : List Key) (k : Key) → Contains (insert_all same_key keys more) k → Contains keys k ⊎ Contains more k
 entered_from keys [] k h = inl h
 entered_from keys (x ∷ more) k h = elim (entered_from (insert_key same_key keys x) more k h) [
-  | inl put ↦ elim (insert_from keys x k put) [
-    | inl old ↦ inl old
-    | inr same ↦ inr (Contains-append_left (x ∷ []) more k (rw same (Contains-push [] k)))
-  ]
+  | inl put ↦ grind (arith, insert_from keys x k put)
   | inr rest ↦ inr (Contains-append_right (x ∷ []) more k rest)
 ]
 

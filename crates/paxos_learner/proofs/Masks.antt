@@ -2,9 +2,8 @@
 use Rattle.std.proofs.Common.{◌≡◌, ◌∙◌, ℕ, zero, suc, Bool, ◌+◌, ◌-◌, ◌*◌, ◌/◌, ◌%◌, ◌^◌, ◌<◌, ◌≤◌, ◌==◌, ◌∷◌, true, false, if◌then◌else◌, bit_and, bit_or, get_or, set, nat_eq, refl, ap, arith}
 use Rattle.std.specs.Int.Count.{ones, ones_step}
 use Rattle.std.specs.Int.{bit_at}
-use Rattle.std.proofs.Math.Nat.{pow-suc}
 use Rattle.std.proofs.lemmas.Nat.{and_mask, mod-pow-add, mod_below, one_shl, ones-le, ones_cat, or_comm, or_shr, pow_pos}
-use Rattle.std.proofs.lemmas.Nat.Bits.{bit_at-pow_other, bit_at-suc, bit_at_lowest, bit_at_or, shr_and_one}
+use Rattle.std.proofs.lemmas.Nat.Bits.{bit_at-suc, bit_at_lowest, bit_at_or, shr_and_one}
 use Rattle.std.proofs.lemmas.Bool.Decides.{nat_tests}
 use Rattle.paxos_msg.specs.Ballots.{count_of}
 use Rattle.paxos_learner.specs.Masks.{low_bits, nodes_of}
@@ -40,11 +39,7 @@ lowest_set mask =
 -- the lowest bit stays, and of the others one is set
 higher_set : (mask i : ℕ) → (bit_or mask (2 ^ suc i) % 2 ≡ mask % 2) × (bit_or mask (2 ^ suc i) / 2 ≡ bit_or (mask / 2) (2 ^ i))
 higher_set mask i =
-    let other : bit_at (2 ^ suc i) 0 ≡ 0 = bit_at-pow_other (suc i) 0 (λ e. omega arith) in
-    let half : 2 ^ suc i / 2 ≡ 2 ^ i = omega (arith, pow-suc 2 i) in (
-      omega (arith, bit_at_lowest (bit_or mask (2 ^ suc i)), bit_at_or mask (2 ^ suc i) 0, bit_at_lowest mask, other),
-      or_shr mask (2 ^ suc i) 1 ∙ ap (bit_or (mask / 2)) half,
-    )
+    grind (arith, bit_at_or mask (2 ^ suc i) 0, or_shr mask (2 ^ suc i) 1)
 
 low_bit_set : (k mask i : ℕ) → i < k → low_bits k (bit_or mask (2 ^ i)) ≡ set (low_bits k mask) i true
 unfolding low_bits

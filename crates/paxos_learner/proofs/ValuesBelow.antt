@@ -74,8 +74,7 @@ module _ (learned : FinMap nat_cmp Value) where
 
 pub keys_longer : (values more : List Value) → (rest : List Key) × (keys_in_order (values ++ more) ≡ keys_in_order values ++ rest)
 keys_longer values more =
-    let h = entered_longer same_key (keys_in_order values) (flat_map keys_of more) in
-    (h.0, keys_entered values more ∙ h.1)
+    grind (arith, entered_longer same_key (keys_in_order values) (flat_map keys_of more), keys_entered values more)
 
 pub input_longer : (values more : List Value) → (rest : List ℕ) × (input_of (values ++ more) ≡ input_of values ++ rest)
 input_longer values more =
@@ -97,5 +96,4 @@ module _ (old new : FinMap nat_cmp Value) (h : HasLearnedMore old new) where
 
   pub learned_grows : (rest : List ℕ) × (learned_input new ≡ learned_input old ++ rest)
   learned_grows =
-      let longer = input_longer (front_values old) front_grows.0 in
-      (longer.0, ap input_of front_grows.1 ∙ longer.1)
+      grind (arith, input_longer (front_values old) front_grows.0)

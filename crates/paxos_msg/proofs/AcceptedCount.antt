@@ -8,8 +8,7 @@ use Rattle.paxos_msg.specs.declared.message.Body.TheVariants.{Accepted}
 use Rattle.paxos_msg.specs.Batches.{Msg, Sent}
 use Rattle.paxos_msg.specs.Messages.{IsSent}
 use Rattle.paxos_msg.specs.Chosen.{IsChosen, IsChosenBy}
-use Rattle.paxos_msg.proofs.Meeting.{majorities_meet}
-use Rattle.paxos_msg.proofs.CountingNodes.{IsCounted, count_grows}
+use Rattle.paxos_msg.proofs.CountingNodes.{IsCounted, count_grows, majorities_meet}
 
 -- node i has sent that it accepted v at s under b
 abbrev pub HasAccepted : Sent → Ballot → ℕ → Value → ℕ → Type 0
@@ -27,10 +26,7 @@ IsUnchosen size sent n s v =
 -- who has accepted is a majority exactly if the count of all nodes is more than half
 pub chosen_by_count : {size count : ℕ} (sent : Sent) (b : Ballot) (s : ℕ) (v : Value)
     → IsCounted (HasAccepted sent b s v) size count → IsChosenBy size sent b s v ↔ (size < 2 * count)
-chosen_by_count {size} sent b s v counted = (
-  λ h. omega (arith, count_grows h.0 counted.members size (λ i low high t. counted.complete i low high (h.2 i t)), h.1, counted.counted),
-  λ more. (counted.members, rw counted.counted at more, counted.sound),
-)
+chosen_by_count {size} sent b s v counted = grind (arith, count_grows)
 
 -- what is chosen was accepted by one of the messages
 pub all_unchosen : (size n s : ℕ) (sent : Sent) (v : Value) → length sent ≤ n → IsUnchosen size sent n s v → ¬ IsChosen size sent s v

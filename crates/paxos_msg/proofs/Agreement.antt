@@ -11,7 +11,7 @@ use Rattle.paxos_msg.specs.Records.{empty_record}
 use Rattle.paxos_msg.specs.Chosen.{IsChosenBy}
 use Rattle.paxos_msg.specs.Growth.{nothing, sends, saves}
 use Rattle.paxos_msg.proofs.BallotOrder.{at_most_cases}
-use Rattle.paxos_msg.proofs.Meeting.{majorities_meet}
+use Rattle.paxos_msg.proofs.CountingNodes.{majorities_meet}
 use Rattle.paxos_msg.proofs.Invariant.{Invariant}
 use Rattle.paxos_msg.proofs.Saves.{saves_keep}
 use Rattle.paxos_msg.proofs.Sends.{sends_keep}

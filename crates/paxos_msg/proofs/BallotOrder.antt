@@ -7,14 +7,8 @@ use Rattle.paxos_msg.specs.Ballots.{IsBelow, IsAtMost}
 pub at_most_refl : (a : Ballot) → IsAtMost a a
 at_most_refl a = grind arith
 
-pub at_most_from_below : (a b : Ballot) → IsBelow a b → IsAtMost a b
-at_most_from_below a b h = grind arith
-
 pub at_most_cases : (a b : Ballot) → IsAtMost a b → IsBelow a b ⊎ (a ≡ b)
 at_most_cases a b h = grind (arith, nat_tests)
 
 pub order_cases : (a b : Ballot) → IsBelow a b ⊎ IsAtMost b a
 order_cases a b = grind arith
-
-pub at_most_both : (a b : Ballot) → IsAtMost a b → IsAtMost b a → a ≡ b
-at_most_both a b h k = grind (arith, nat_tests)

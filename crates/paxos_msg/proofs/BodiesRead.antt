@@ -1,5 +1,5 @@
 -- Bodies: what is read was written, and what is written is read.
-use Rattle.std.proofs.Common.{◌≡◌, ℕ, zero, suc, ◌<◌, ◌≤◌, not, leb, ltb, List, ◌++◌, length, Ok, refl, arith, lit<}
+use Rattle.std.proofs.Common.{◌≡◌, ℕ, zero, suc, ◌<◌, ◌≤◌, leb, ltb, List, ◌++◌, length, Ok, IfOk, refl, arith, lit<}
 use Rattle.std.proofs.lemmas.Bool.{le-ltb, lt-leb}
 use Rattle.std.proofs.lemmas.Bool.Decides.{nat_tests}
 use Rattle.paxos_msg.specs.declared.bodies.TheConstants.{LAST_KIND}
@@ -10,8 +10,6 @@ use Rattle.paxos_msg.specs.Bodies.{IsBody, kind_of, body_bytes, prepare_at, prom
 use Rattle.paxos_msg.specs.Fits.{AreBytes}
 use Rattle.paxos_msg.specs.Spelling.{number_bytes}
 use Rattle.paxos_msg.specs.Reading.{place_at}
-use Rattle.paxos_msg.specs.Tests.{ballot_lt}
-use Rattle.paxos_msg.proofs.Exact.{below}
 use Rattle.paxos_msg.proofs.Fields.{Exact, step, step_if, one_byte, ballots, own_ballots, places}
 use Rattle.paxos_msg.proofs.ValuesRead.{values, own_values}
 use Rattle.paxos_msg.proofs.VotesRead.{votes}
@@ -25,45 +23,25 @@ end = places 65536 (lit< tt)
 
 module _ (size sender : ℕ) where
   -- a body that is read fits, is of the kind, and is spelled there
-  body_found : (kind : ℕ) (bytes : List ℕ) (body : Body) (rest : List ℕ) → 0 < kind → kind ≤ LAST_KIND → AreBytes bytes
-      → body_at size kind sender bytes ≡ Ok (body, rest)
-      → (IsBody size sender body × (kind_of body ≡ kind)) × (bytes ≡ body_bytes body ++ rest)
+  body_found : (kind : ℕ) (bytes : List ℕ) → 0 < kind → kind ≤ LAST_KIND → AreBytes bytes → IfOk (body_at size kind sender bytes)
+      (λ p. (IsBody size sender p.0 × (kind_of p.0 ≡ kind)) × (bytes ≡ body_bytes p.0 ++ p.1) × AreBytes p.1)
   unfolding body_at prepare_at promise_at accept_at accepted_at refused_at submit_at ask_at tell_at
-  body_found (suc zero) bytes body rest above most are e =
-      step (own_ballots size sender) bytes _ _ are e (λ b later own parts are e.
-      step place later _ _ are e (λ from later low parts' are e.
-      grind (arith, nat_tests)))
-  body_found (suc (suc zero)) bytes body rest above most are e =
-      step (ballots size) bytes _ _ are e (λ b later good parts are e.
-      step place later _ _ are e (λ first later low parts' are e.
-      step_if end later fault.Place (λ upto. leb upto first) _ _ are e (λ upto later high parts'' are order e.
-      step_if one_byte later fault.Count (λ count. ltb 8 count) _ _ are e (λ count later small parts''' are few e.
+  body_found (suc zero) bytes above most are = grind (arith, nat_tests, own_ballots size sender, place)
+  body_found (suc (suc zero)) bytes above most are =
+      step (ballots size) bytes _ _ are (λ b later good parts are.
+      step place later _ _ are (λ first later low parts' are.
+      step_if end later fault.Place (λ upto. leb upto first) _ _ are (λ upto later high parts'' are order.
+      step_if one_byte later fault.Count (λ count. ltb 8 count) _ _ are (λ count later small parts''' are few.
       let reads = votes size b first upto high count 0 first (omega arith) (omega arith) (λ k le above. above) in
-      step reads later _ _ are e (λ reported later in_range last are e.
+      step reads later _ _ are (λ reported later in_range last are.
       grind (arith, nat_tests))))))
-  body_found (suc (suc (suc zero))) bytes body rest above most are e =
-      step (own_ballots size sender) bytes _ _ are e (λ b later own parts are e.
-      step place later _ _ are e (λ s later low parts' are e.
-      step (values size) later _ _ are e (λ v later fits parts'' are e.
-      grind (arith, nat_tests))))
-  body_found (suc (suc (suc (suc zero)))) bytes body rest above most are e =
-      step (ballots size) bytes _ _ are e (λ b later good parts are e.
-      step place later _ _ are e (λ s later low parts' are e.
-      step (values size) later _ _ are e (λ v later fits parts'' are e.
-      grind (arith, nat_tests))))
-  body_found (suc (suc (suc (suc (suc zero))))) bytes body rest above most are e =
-      step (ballots size) bytes _ _ are e (λ b later good parts are e.
-      step_if (ballots size) later fault.Ballot (λ promised. not (ballot_lt b promised)) _ _ are e (λ promised later fit parts' are above e.
-      grind (arith, nat_tests)))
-  body_found (suc (suc (suc (suc (suc (suc zero)))))) bytes body rest above most are e =
-      step (own_values size sender) bytes _ _ are e (λ v later fits parts are e. grind (arith, nat_tests))
-  body_found (suc (suc (suc (suc (suc (suc (suc zero))))))) bytes body rest above most are e =
-      step end bytes _ _ are e (λ from later high parts are e. grind (arith, nat_tests))
-  body_found (suc (suc (suc (suc (suc (suc (suc (suc zero)))))))) bytes body rest above most are e =
-      step place bytes _ _ are e (λ s later low parts are e.
-      step (values size) later _ _ are e (λ v later fits parts' are e.
-      grind (arith, nat_tests)))
-  body_found _ bytes body rest above most are e = absurd (omega arith)
+  body_found (suc (suc (suc zero))) bytes above most are = grind (arith, nat_tests, own_ballots size sender, place, values size)
+  body_found (suc (suc (suc (suc zero)))) bytes above most are = grind (arith, nat_tests, ballots size, place, values size)
+  body_found (suc (suc (suc (suc (suc zero))))) bytes above most are = grind (arith, nat_tests, ballots size)
+  body_found (suc (suc (suc (suc (suc (suc zero)))))) bytes above most are = grind (arith, nat_tests, own_values size sender)
+  body_found (suc (suc (suc (suc (suc (suc (suc zero))))))) bytes above most are = grind (arith, nat_tests, end)
+  body_found (suc (suc (suc (suc (suc (suc (suc (suc zero)))))))) bytes above most are = grind (arith, nat_tests, place, values size)
+  body_found _ bytes above most are = absurd (omega arith)
 
   -- a body that fits is read again
   body_again : (body : Body) (rest : List ℕ) → IsBody size sender body
@@ -81,22 +59,12 @@ module _ (size sender : ℕ) where
         reads.again reported rest (in_range, refl),
       ) refl
   body_again other rest h =
-      grind (
-        arith,
-        nat_tests,
-        (ballots size).again,
-        (own_ballots size sender).again,
-        place.again,
-        end.again,
-        (values size).again,
-        (own_values size sender).again,
-        below,
-      )
+      grind (arith, nat_tests, ballots size, own_ballots size sender, place.again, end.again, values size, own_values size sender)
 
   -- a body is read as it is spelled
   pub bodies : (kind : ℕ) → 0 < kind → kind ≤ LAST_KIND
       → Exact (body_at size kind sender) (λ body. IsBody size sender body × (kind_of body ≡ kind)) body_bytes
   bodies kind above most = record {
-    found = λ bytes body rest. body_found kind bytes body rest above most;
+    found = λ bytes. body_found kind bytes above most;
     again = λ body rest h. rw (← h.1) (body_again body rest h.0);
   }

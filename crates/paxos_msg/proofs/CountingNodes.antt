@@ -1,19 +1,35 @@
--- Counting the nodes for which something holds, one after another.
+-- Counting nodes: two majorities share one, and those for which something holds, one after another.
 use Rattle.std.proofs.Common.{◌≡◌, ℕ, zero, suc, ◌+◌, ◌<◌, ◌≤◌, ◌==◌, Bool, true, false, IsTrue, if◌then◌else◌, add-one, refl, arith}
 use Rattle.std.proofs.lemmas.Bool.Decides.{nat_tests}
-use Rattle.paxos_msg.specs.Ballots.{count_of}
+use Rattle.paxos_msg.specs.Ballots.{count_of, IsMajority}
+
+-- ---- majorities
+
+-- a node of both sets, from 1 to n
+abbrev Shared : (ℕ → Bool) → (ℕ → Bool) → ℕ → Type 0
+Shared p q n = (i : ℕ) × (0 < i) × (i ≤ n) × IsTrue (p i) × IsTrue (q i)
+
+-- a node that is shared up to n is shared up to the next
+still_shared : (p q : ℕ → Bool) (n : ℕ) → Shared p q n → Shared p q (suc n)
+still_shared p q n (i, low, high, e, f) = (i, low, omega arith, e, f)
+
+next_shared : (p q : ℕ → Bool) (n : ℕ) → IsTrue (p (suc n)) → IsTrue (q (suc n)) → Shared p q (suc n)
+next_shared p q n e f = (suc n, omega arith, omega arith, e, f)
+
+-- more members than nodes share one
+shared : (p q : ℕ → Bool) (n : ℕ) → n < count_of p n + count_of q n → Shared p q n
+shared p q zero h = absurd (omega arith)
+shared p q (suc n) h = grind (arith, nat_tests, still_shared p q n, next_shared p q n, shared p q n)
+
+pub majorities_meet : (size : ℕ) (p q : ℕ → Bool) → IsMajority size p → IsMajority size q
+    → (i : ℕ) × (0 < i) × (i ≤ size) × IsTrue (p i) × IsTrue (q i)
+majorities_meet size p q h k = shared p q size (omega arith)
+
+-- ---- one node after another
 
 -- one node more is counted if it is a member
 pub count_next : (p : ℕ → Bool) (n : ℕ) → count_of p (n + 1) ≡ (if p (n + 1) then 1 else 0) + count_of p n
 count_next p n = rw add-one refl
-
--- sets that are the same up to n count the same there
-same_count : (p q : ℕ → Bool) (n : ℕ) → ((i : ℕ) → i ≤ n → p i ≡ q i) → count_of p n ≡ count_of q n
-same_count p q zero same = refl
-same_count p q (suc n) same = rw (same (suc n) (omega arith), same_count p q n (λ i h. same i (omega arith)))
-
-pub not_true : IsTrue false → ⊥
-not_true h = cc
 
 -- a set of more nodes counts no fewer
 pub count_grows : (p q : ℕ → Bool) (n : ℕ) → ((i : ℕ) → 0 < i → i ≤ n → IsTrue (p i) → IsTrue (q i)) → count_of p n ≤ count_of q n
@@ -30,29 +46,17 @@ pub record IsCounted (P : ℕ → Type 0) (n count : ℕ) : Type 0 where
 
 pub none_counted : (P : ℕ → Type 0) → IsCounted P 0 0
 none_counted P =
+    record { members = λ i. false; counted = refl; sound = λ i h. absurd cc; complete = λ i low high. absurd (omega arith) }
+
+-- the next node is counted
+pub counted_in : {P : ℕ → Type 0} {n count : ℕ} → IsCounted P n count → P (n + 1) → IsCounted P (n + 1) (count + 1)
+counted_in {P} {n} {count} before h =
+    let next : ℕ → Bool = λ i. (if i == n + 1 then true else before.members i) in
+    let no_fewer = count_grows before.members next n (λ i low high t. grind (arith, nat_tests)) in
+    let no_more = count_grows next before.members n (λ i low high t. grind (arith, nat_tests)) in
     record {
-      members = λ i. false;
-      counted = refl;
-      sound = λ i h. absurd (not_true h);
-      complete = λ i low high. absurd (omega arith);
+      members = next;
+      counted = grind (arith, nat_tests, count_next next n, no_fewer, no_more, before.counted);
+      sound = λ i t. grind (arith, nat_tests);
+      complete = λ i low high t. grind (arith, nat_tests);
     }
-
-module _ {P : ℕ → Type 0} {n count : ℕ} (before : IsCounted P n count) where
-  -- the next node is one of the members, or not, as x says
-  with_next : (x : Bool) (all : ℕ) → all ≡ (if x then 1 else 0) + count → (IsTrue x → P (suc n)) → (P (suc n) → IsTrue x)
-      → IsCounted P (suc n) all
-  with_next x all e sound complete =
-      let next : ℕ → Bool = λ i. (if i == suc n then x else before.members i) in
-      let same = same_count next before.members n (λ i le. grind (arith, nat_tests)) in
-      record {
-        members = next;
-        counted = grind (arith, nat_tests, same, before.counted);
-        sound = λ i h. grind (arith, nat_tests);
-        complete = λ i low high h. grind (arith, nat_tests);
-      }
-
-  pub counted_in : P (n + 1) → IsCounted P (n + 1) (count + 1)
-  counted_in h = rw (add-one n) (with_next true (count + 1) (omega arith) (λ t. rw add-one at h) (λ t. refl))
-
-  pub counted_out : ¬ P (n + 1) → IsCounted P (n + 1) count
-  counted_out h = rw (add-one n) (with_next false count (omega arith) (λ t. absurd (not_true t)) (λ p. absurd (h (rw (add-one n) p))))

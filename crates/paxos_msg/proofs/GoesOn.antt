@@ -6,9 +6,9 @@ use Rattle.std.proofs.lemmas.List.Elements.{Contains-append_left}
 use Rattle.std.proofs.lemmas.Bool.Decides.{nat_tests}
 use Rattle.paxos_msg.specs.declared.value.Value.{Value}
 use Rattle.paxos_msg.specs.Batches.{Body, Change, Grew, MaySend, MaySendAll, Msg, Record, Sent}
-use Rattle.paxos_msg.specs.declared.message.Body.TheVariants.{Accept, Accepted, Submit, Tell}
+use Rattle.paxos_msg.specs.declared.message.Body.TheVariants.{Submit}
 use Rattle.paxos_msg.specs.Keys.{Key}
-use Rattle.paxos_msg.specs.Messages.{IsSaid, messages_of}
+use Rattle.paxos_msg.specs.Messages.{messages_of}
 use Rattle.paxos_msg.specs.Records.{MaySave, Stored}
 use Rattle.paxos_msg.specs.Sending.{IsNoNewProposal, KnowsMore}
 use Rattle.paxos_msg.specs.Chosen.{IsChosen}
@@ -16,15 +16,12 @@ use Rattle.paxos_msg.specs.Growth.{sends, saves}
 
 -- ---- more messages
 
-stays_said : (sent more : Sent) (body : Body) → IsSaid sent body → IsSaid (sent ++ more) body
-stays_said sent more body (i, h) = (i, Contains-append_left sent more _ h)
-
 pub stays_chosen : (size s : ℕ) (sent more : Sent) (v : Value) → IsChosen size sent s v → IsChosen size (sent ++ more) s v
 stays_chosen size s sent more v (b, (members, majority, accepted)) =
     (b, (members, majority, λ i member. Contains-append_left sent more _ (accepted i member)))
 
 pub may_still_save : (sent more : Sent) (r : Record) (change : Change) → MaySave sent r change → MaySave (sent ++ more) r change
-may_still_save sent more r change may = grind (arith, nat_tests, stays_said sent more)
+may_still_save sent more r change may = grind (arith, nat_tests, Contains-append_left)
 
 -- ---- a call
 
@@ -52,11 +49,8 @@ restarts size i sent records next failed grew may (inr (change, tried, e)) other
 module _ (size i : ℕ) (typed newer : List Key) (learned now : ℕ → Option Value) (sent more : Sent) (r : Record) where
   pub may_still_send : (body : Body) → KnowsMore typed newer learned now → IsNoNewProposal sent i body
       → MaySend size typed learned sent i r body → MaySend size newer now (sent ++ more) i r body
-  may_still_send (Accept b s v) knows old (own, rule) = grind (arith, nat_tests, Contains-append_left)
-  may_still_send (Accepted b s v) knows old (said, vote, promised) = (stays_said sent more (Accept b s v) said, vote, promised)
   may_still_send (Submit v) knows old may = record { own = may.own; known = λ key k. knows.keys key (may.known key k) }
-  may_still_send (Tell s v) knows old may = knows.values s v may
-  may_still_send _ knows old may = may
+  may_still_send other knows old may = grind (arith, nat_tests, Contains-append_left, knows.values)
 
 -- ---- a call in two halves
 

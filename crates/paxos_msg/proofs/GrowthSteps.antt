@@ -1,6 +1,6 @@
 -- The steps of a growth that is written out.
 use Rattle.std.proofs.Common.{◌≡◌, ℕ, suc, ◌==◌, Bool, false, IsTrue, List, [], ◌∷◌, ◌++◌, Option, None, IfSome, if◌then◌else◌, refl, arith}
-use Rattle.std.proofs.lemmas.Bool.{ne_eqb, eq-eqb}
+use Rattle.std.proofs.lemmas.Bool.{eq-eqb}
 use Rattle.std.proofs.lemmas.List.Folds.{list_any_at}
 use Rattle.std.specs.List.{list_any}
 use Rattle.std.proofs.lemmas.Bool.Decides.{nat_tests}
@@ -8,8 +8,7 @@ use Rattle.paxos_msg.specs.declared.ballot.Ballot.{Ballot}
 use Rattle.paxos_msg.specs.declared.value.Value.{Value}
 use Rattle.paxos_msg.specs.declared.value.Value.TheVariants as value
 use Rattle.paxos_msg.specs.Batches.{Body, Change, Grew, IsFree, IsSafe, IsTyped, MaySend, Record, Sent, Vote}
-use Rattle.paxos_msg.specs.declared.record.Change.TheVariants.{Ballotted}
-use Rattle.paxos_msg.specs.declared.record.Change.TheVariants.{Promise as ToPromise}
+use Rattle.paxos_msg.specs.declared.record.Change.TheVariants.{Ballotted, Promise as ToPromise}
 use Rattle.paxos_msg.specs.declared.message.Body.TheVariants.{Promise, Accept, Accepted}
 use Rattle.paxos_msg.specs.Ballots.{IsAtMost, IsMajority}
 use Rattle.paxos_msg.specs.Chosen.{is_listed}
@@ -18,7 +17,7 @@ use Rattle.paxos_msg.specs.Keys.{Key}
 use Rattle.paxos_msg.specs.Messages.{IsSent, IsSaid, IsPromised, kept_vote_at}
 use Rattle.paxos_msg.specs.Records.{changed, IsSaved, MaySave}
 use Rattle.paxos_msg.specs.Sending.{IsUnproposed, IsReport}
-use Rattle.paxos_msg.proofs.WithVote.{vote_at-with_vote_same}
+use Rattle.paxos_msg.proofs.VotesByPlace.{vote_at-with_vote_same}
 
 -- ---- nodes
 
@@ -92,10 +91,7 @@ abbrev with_change : (ℕ → Record) → ℕ → Change → (ℕ → Record)
 with_change records i change j = if j == i then changed (records i) change else records j
 
 pub with_change-saved : (records : ℕ → Record) (i : ℕ) (change : Change) → IsSaved records i change (with_change records i change)
-with_change-saved records i change = record {
-  own = rw (eq-eqb i i refl);
-  others = λ j ne. rw (ne_eqb j i ne);
-}
+with_change-saved records i change = grind (arith, nat_tests)
 
 module _ {size : ℕ} (g : Grown size) (i : ℕ) where
   -- node i sends the body

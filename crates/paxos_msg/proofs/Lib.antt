@@ -1,7 +1,6 @@
 pub mod VotesLeft
 pub mod BallotOrder
-pub mod Meeting
-pub mod WithVote
+pub mod VotesByPlace
 pub mod Invariant
 pub mod Saves
 pub mod Sends
@@ -19,8 +18,5 @@ pub mod VotesRead
 pub mod BodiesRead
 pub mod MessagesRead
 pub mod SpellingLengths
-mod Ascending
-pub mod Rules
-pub mod Exact
 pub mod Retold
 mod RecordsTell

@@ -1,7 +1,8 @@
 -- What grew goes on to have grown when values are replaced by others with the same keys.
-use Rattle.std.proofs.Common.{◌≡◌, ◌∙◌, ℕ, zero, suc, inl, inr, List, [], ◌∷◌, map, Option, Contains, ap, refl, arith}
+use Rattle.std.proofs.Common.{◌≡◌, ◌∙◌, ℕ, inl, inr, List, [], ◌∷◌, map, Option, Contains, ap, refl, arith}
 use Rattle.std.specs.Option.{option_map}
 use Rattle.std.proofs.lemmas.Bool.Decides.{nat_tests}
+use Rattle.std.proofs.lemmas.List.Elements.{All-contains, All-contains_itself, All-map, All-weaker}
 use Rattle.std.proofs.lemmas.List.{get_or-map, length-map, map-append}
 use Rattle.paxos_msg.specs.declared.ballot.Ballot.{Ballot}
 use Rattle.paxos_msg.specs.declared.value.Vote.{Vote}
@@ -9,7 +10,7 @@ use Rattle.paxos_msg.specs.declared.record.Record.{Record}
 use Rattle.paxos_msg.specs.declared.record.Change.{Change}
 use Rattle.paxos_msg.specs.declared.record.Change.TheVariants as change
 use Rattle.paxos_msg.specs.declared.message.Body.{Body}
-use Rattle.paxos_msg.specs.declared.message.Body.TheVariants.{Promise, Accept, Accepted, Submit, Tell}
+use Rattle.paxos_msg.specs.declared.message.Body.TheVariants.{Promise, Accept, Accepted, Submit}
 use Rattle.paxos_msg.specs.declared.message.Msg.{Msg}
 use Rattle.paxos_msg.specs.Chosen.{IsChosen}
 use Rattle.paxos_msg.specs.Growth.{Grew, nothing, sends, saves}
@@ -25,11 +26,11 @@ use Rattle.paxos_msg.specs.Sending.{IsReport, IsUnproposed, MaySend}
 contains_map : {A B : Type 0} (f : A → B) (xs : List A) (x : A) → Contains xs x → Contains (map f xs) (f x)
 contains_map f xs x (k, l, e) = (k, omega (arith, length-map xs f), get_or-map f xs k x (f x) l ∙ ap f e)
 
-map_contains : {A B : Type 0} (f : A → B) (xs : List A) (y : B) → Contains (map f xs) y → (x : A) × Contains xs x × (f x ≡ y)
-map_contains f [] y (k, l, e) = absurd (omega arith)
-map_contains f (x ∷ xs) y (zero, l, e) = (x, (0, omega arith, refl), e)
-map_contains f (x ∷ xs) y (suc k, l, e) = let (z, (j, m, d), p) =
-    map_contains f xs y (k, omega arith, e) in (z, (suc j, omega (arith, m), d), p)
+-- what holds of each mapped element holds of each element of the mapped list
+of_mapped : {A B : Type 0} (f : A → B) (xs : List A) (P : B → Type 0) → ((x : A) → Contains xs x → P (f x))
+    → (y : B) → Contains (map f xs) y → P y
+of_mapped f xs P h y k =
+    All-contains P (map f xs) y (All-map P f xs (All-weaker (Contains xs) (λ x. P (f x)) h xs (All-contains_itself xs))) k
 
 module _ {V W : Type 0} (f : V → W) where
   -- ---- votes
@@ -66,27 +67,18 @@ module _ {V W : Type 0} (f : V → W) where
 
   unproposed_still : (sent : Sent V) (b : Ballot) (s : ℕ) → IsUnproposed sent b s → IsUnproposed (sent_with f sent) b s
   unproposed_still sent b s h w (i, k) =
-      let (m, there, e) = map_contains (msg_with f) sent _ k in
-      no_proposal sent m.sender b s w m.body h there (ap (λ (n : Msg W). n.body) e)
+      of_mapped (msg_with f) sent (λ m. m ≡ record { sender = i; body = Accept b s w } → ⊥)
+      (λ m there e. no_proposal sent m.sender b s w m.body h there (ap (λ (n : Msg W). n.body) e)) _ k refl
 
   promised_still : (sent : Sent V) (i : ℕ) (b : Ballot) (s : ℕ) (reported : Option (Vote V))
       → IsPromised sent i b s reported → IsPromised (sent_with f sent) i b s (option_with reported)
-  promised_still sent i b s reported h = record {
-    first = h.first;
-    upto = h.upto;
-    votes = map (vote_with f) h.votes;
-    is_sent = contains_map (msg_with f) sent _ h.is_sent;
-    from_first = h.from_first;
-    below_upto = h.below_upto;
-    reports = vote_at_with h.votes s ∙ ap option_with h.reports;
-  }
+  promised_still sent i b s reported h = grind (arith, nat_tests, contains_map (msg_with f) sent _ h.is_sent, vote_at_with h.votes s)
 
   report_still : (r : Record V) (first upto : ℕ) (votes : List (Vote V)) → IsReport r first upto votes
       → IsReport (record_with f r) first upto (map (vote_with f) votes)
   report_still r first upto votes h = record {
-    own = λ w k. (let (vote, there, e) = map_contains (vote_with f) votes w k in
-        rw (← e) (contains_map (vote_with f) r.votes vote (h.own vote there)));
-    within = λ w k. (let (vote, there, e) = map_contains (vote_with f) votes w k in rw (← e) (h.within vote there));
+    own = of_mapped (vote_with f) votes _ (λ vote there. contains_map (vote_with f) r.votes vote (h.own vote there));
+    within = of_mapped (vote_with f) votes _ h.within;
     whole = λ s from below. grind (arith, nat_tests, vote_at_with, h.whole s from below);
   }
 
@@ -122,13 +114,12 @@ module _ {V W : Type 0} (f : V → W) where
           },
         ),
       )
-      may_send_still (Accepted b s v) may = (said_still sent (Accept b s v) may.0, vote_at_with r.votes s ∙ ap option_with may.1, may.2)
       may_send_still (Submit v) may = record {
         own = record { has_key = rw (keys v) may.own.has_key; at_node = rw (keys v) may.own.at_node };
         known = rw (keys v) may.known;
       }
-      may_send_still (Tell s v) may = ap (option_map f) may
-      may_send_still _ may = may
+      may_send_still (Accepted b s v) may = (said_still sent (Accept b s v) may.0, vote_at_with r.votes s ∙ ap option_with may.1, may.2)
+      may_send_still other may = grind (arith, nat_tests)
 
     pub grew_still : {size : ℕ} {sent : Sent V} {records : ℕ → Record V} → Grew values size sent records
         → Grew others size (sent_with f sent) (λ i. record_with f (records i))

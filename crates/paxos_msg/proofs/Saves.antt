@@ -2,12 +2,11 @@
 use Rattle.std.proofs.Common.{ℕ, arith}
 use Rattle.std.proofs.lemmas.Bool.Decides.{nat_tests}
 use Rattle.paxos_msg.specs.declared.ballot.Ballot.{Ballot}
-use Rattle.paxos_msg.specs.declared.value.Value.{Value}
 use Rattle.paxos_msg.specs.Batches.{Change, Record, Sent}
 use Rattle.paxos_msg.specs.Records.{MaySave, IsSaved, changed}
-use Rattle.paxos_msg.proofs.Invariant.{HasPromised, HasVoted, HasRight, Invariant, IsDecided}
+use Rattle.paxos_msg.proofs.Invariant.{HasPromised, HasVoted, HasRight, Invariant}
 use Rattle.paxos_msg.specs.declared.record.Change.TheVariants.{Ballotted}
-use Rattle.paxos_msg.proofs.WithVote.{vote_after}
+use Rattle.paxos_msg.proofs.VotesByPlace.{vote_after}
 
 -- a vote that was right is right after a change, and the vote there then is under no smaller ballot
 votes_kept : (sent : Sent) (old : Record) (change : Change) (s : ℕ) → MaySave sent old change → HasRight sent s old
@@ -22,10 +21,6 @@ module _ (size : ℕ) (sent : Sent) (records next : ℕ → Record) (i : ℕ) (c
   after : (j : ℕ) (Q : Record → Type 0) → (MaySave sent (records j) change → Q (changed (records j) change)) → Q (records j) → Q (next j)
   after j Q new old = grind (arith, nat_tests)
 
-  -- what is decided stays decided
-  decided_kept : (b : Ballot) (s : ℕ) (w : Value) → IsDecided size sent records b s w → IsDecided size sent next b s w
-  decided_kept b s w h = grind (arith, nat_tests)
-
   -- the invariant holds after the save
   pub saves_keep : Invariant size sent records → Invariant size sent next
   saves_keep inv = record {
@@ -37,5 +32,5 @@ module _ (size : ℕ) (sent : Sent) (records next : ℕ → Record) (i : ℕ) (c
     right = λ j s. after j (HasRight sent s) (λ m. (votes_kept sent (records j) change s m (inv.right j s)).0) (inv.right j s);
     held = λ j b s reported h. (let old = inv.held j b s reported h in after j (HasPromised b) (λ m. grind (arith, nat_tests)) old);
     reports = inv.reports;
-    decided = λ c s w said b below. decided_kept b s w (inv.decided c s w said b below);
+    decided = λ c s w said b below. (let d = inv.decided c s w said b below in grind (arith, nat_tests));
   }

@@ -1,5 +1,5 @@
 -- A message that a node may send keeps the invariant.
-use Rattle.std.proofs.Common.{◌≡◌, ℕ, ◌⊎◌, inl, inr, List, [], ◌∷◌, ◌++◌, Option, Some, None, IsSomeAnd, MatchOption, IsTrue, sym, ◌∙◌, ap, arith}
+use Rattle.std.proofs.Common.{◌≡◌, ℕ, ◌⊎◌, inl, inr, List, [], ◌∷◌, ◌++◌, Option, Some, None, IsSomeAnd, MatchOption, IsTrue, sym, ◌∙◌, arith}
 use Rattle.std.proofs.lemmas.List.Elements.{Contains-append_left, Contains-push_cases}
 use Rattle.std.proofs.lemmas.Option.{IfSome_then}
 use Rattle.std.proofs.lemmas.Bool.Decides.{nat_tests}
@@ -11,7 +11,7 @@ use Rattle.paxos_msg.specs.declared.message.Body.TheVariants.{Promise, Accept, A
 use Rattle.paxos_msg.specs.Keys.{Key}
 use Rattle.paxos_msg.specs.Messages.{IsSent, IsSaid, IsPromised, kept_vote_at}
 use Rattle.paxos_msg.specs.Sending.{IsGreatest, IsBest, IsUnproposed}
-use Rattle.paxos_msg.proofs.BallotOrder.{at_most_both, order_cases}
+use Rattle.paxos_msg.proofs.BallotOrder.{order_cases}
 use Rattle.paxos_msg.proofs.Invariant.{HasPromised, HasVoted, HasRight, Invariant, IsDecided}
 
 -- who has promised b has passed each ballot below it
@@ -23,11 +23,6 @@ passed r b c below h = grind (arith, nat_tests)
 -- and is all that is left to the ballots below it.
 module _ {size : ℕ} {sent : Sent} {records : ℕ → Record} (c : Ballot) (s : ℕ) (w : Value)
     (inv : Invariant size sent records) (safe : IsSafe size sent c s w) where
-  -- what a member accepted under a ballot below c, its report has under no smaller one
-  latest : (b : Ballot) (i : ℕ) (v : Value) → IsBelow b c → IsTrue (safe.members i) → IsSent sent i (Accepted b s v)
-      → IsSomeAnd (safe.reported i) (λ vote. IsAtMost b vote.ballot)
-  latest b i v below member h = (inv.reports i c s (safe.reported i) (safe.promised i member)).latest b v h below
-
   -- where a majority accepted nothing else, the value is decided
   by_majority : (b : Ballot) → IsBelow b c → ((i : ℕ) → IsTrue (safe.members i) → (v : Value) → IsSent sent i (Accepted b s v) → v ≡ w)
       → IsDecided size sent records b s w
@@ -48,22 +43,18 @@ module _ {size : ℕ} {sent : Sent} {records : ℕ → Record} (c : Ballot) (s :
   none_else : (vote : Vote) (b : Ballot) (i : ℕ) (v : Value) → IsGreatest safe.members safe.reported vote → IsAtMost vote.ballot b
       → IsBelow b c → IsTrue (safe.members i) → IsSent sent i (Accepted b s v) → v ≡ vote.value
   none_else vote b i v great at_most below member h =
-      grind (
-        arith,
-        nat_tests,
-        latest b i v below member h,
-        great.greatest i member,
-        at_most_both b vote.ballot,
-        inv.accepted i b s v h,
-        great_proposed vote great,
-        inv.one_value vote.ballot s v vote.value,
-      )
+      let latest = (inv.reports i c s (safe.reported i) (safe.promised i member)).latest b v h below in
+      let said = inv.accepted i b s v h in
+      grind (arith, nat_tests, latest, said, great.greatest i member, great_proposed vote great, inv.one_value b s v vote.value)
 
   -- so it is by the best of the reported votes
   by_best : (best : Option Vote) → IsBest safe.members safe.reported best → MatchOption best (IsFree sent w) (λ vote. w ≡ vote.value)
       → IsFree sent w × ((b : Ballot) → IsBelow b c → IsDecided size sent records b s w)
-  by_best None silent free =
-      (free, λ b below. by_majority b below (λ i member v h. absurd (rw (silent i member) at (latest b i v below member h))))
+  by_best None silent free = (
+    free,
+    λ b below. by_majority b below (λ i member v h.
+        absurd (rw (silent i member) at ((inv.reports i c s (safe.reported i) (safe.promised i member)).latest b v h below))),
+  )
   by_best (Some vote) great e =
       let proposed = great_proposed vote great in
       rw e (
@@ -74,7 +65,7 @@ module _ {size : ℕ} {sent : Sent} {records : ℕ → Record} (c : Ballot) (s :
         ],
       )
 
-  pub safe_holds : IsFree sent w × ((b : Ballot) → IsBelow b c → IsDecided size sent records b s w)
+  safe_holds : IsFree sent w × ((b : Ballot) → IsBelow b c → IsDecided size sent records b s w)
   safe_holds = by_best safe.best safe.is_best safe.value
 
 -- the invariant after one more message that may be sent
@@ -88,28 +79,22 @@ module _ (size : ℕ) (typed : List Key) (learned : ℕ → Option Value) (sent 
   still_said : (body : Body) → IsSaid sent body → IsSaid now body
   still_said body (i, h) = (i, Contains-append_left sent (m ∷ []) _ h)
 
-  -- what is sent was sent before, or is the new message
-  new_cases : (i : ℕ) (body : Body) → IsSent now i body → IsSent sent i body ⊎ (m ≡ record { sender = i; body = body })
-  new_cases i body h = Contains-push_cases sent m _ h
-
   -- what is sent was sent before, or its node was allowed to send it
   cases : (i : ℕ) (body : Body) → IsSent now i body → IsSent sent i body ⊎ MaySend size typed learned sent i (records i) body
-  cases i body h = grind (arith, nat_tests, new_cases i body h)
+  cases i body h = grind (arith, nat_tests, Contains-push_cases sent m (record { sender = i; body = body }) h)
 
   -- a proposal was made before, or is the new message, the first under its ballot and safe
-  proposal : (i : ℕ) (b : Ballot) (s : ℕ) (v : Value) → IsSent now i (Accept b s v)
-      → IsSaid sent (Accept b s v) ⊎ (IsUnproposed sent b s × IsSafe size sent b s v × (m ≡ record { sender = i; body = Accept b s v }))
-  proposal i b s v h = grind (arith, nat_tests, cases i (Accept b s v) h, new_cases i (Accept b s v) h)
+  proposal : (b : Ballot) (s : ℕ) (v : Value) → IsSaid now (Accept b s v)
+      → IsSaid sent (Accept b s v) ⊎ (IsUnproposed sent b s × IsSafe size sent b s v × (m.body ≡ Accept b s v))
+  proposal b s v (i, h) =
+      grind (arith, nat_tests, cases i (Accept b s v) h, Contains-push_cases sent m (record { sender = i; body = Accept b s v }) h)
 
   -- one value is proposed under a ballot at a place
   one_value : (b : Ballot) (s : ℕ) (v w : Value) → IsSaid now (Accept b s v) → IsSaid now (Accept b s w) → v ≡ w
-  one_value b s v w (i, h) (j, k) =
-      elim (proposal i b s v h) [
-        | inl old ↦ elim (proposal j b s w k) [ inl old' ↦ inv.one_value b s v w old old' | inr new ↦ absurd (new.0 v old) ]
-        | inr new ↦ elim (proposal j b s w k) [
-          | inl old ↦ absurd (new.0 w old)
-          | inr new' ↦ cc (ap (λ (n : Msg). n.body) (sym new.2 ∙ new'.2))
-        ]
+  one_value b s v w h k =
+      elim (proposal b s v h) [
+        | inl old ↦ elim (proposal b s w k) [ inl old' ↦ inv.one_value b s v w old old' | inr new ↦ absurd (new.0 v old) ]
+        | inr new ↦ elim (proposal b s w k) [ inl old ↦ absurd (new.0 w old) | inr new' ↦ cc (new.2, new'.2) ]
       ]
 
   -- a node has a vote under a ballot that it accepted, or a greater one
@@ -125,18 +110,7 @@ module _ (size : ℕ) (typed : List Key) (learned : ℕ → Option Value) (sent 
       → IsPromised sent i b s reported
       ⊎ (((records i).promised ≡ Some b) × (kept_vote_at (records i).votes s ≡ reported))
   promise_cases i b s reported h =
-      elim (cases i (Promise b h.first h.upto h.votes) h.is_sent) [
-        | inl old ↦ inl (record {
-          first = h.first;
-          upto = h.upto;
-          votes = h.votes;
-          is_sent = old;
-          from_first = h.from_first;
-          below_upto = h.below_upto;
-          reports = h.reports;
-        })
-        | inr rule ↦ inr (rule.0, sym (rule.1.whole s h.from_first h.below_upto) ∙ h.reports)
-      ]
+      grind (arith, nat_tests, cases i (Promise b h.first h.upto h.votes) h.is_sent)
 
   -- who has promised b accepts nothing below it any more
   too_late : (i : ℕ) (c : Ballot) (s : ℕ) (v : Value) → IsSomeAnd (records i).promised (λ p. IsBelow c p)
@@ -149,7 +123,7 @@ module _ (size : ℕ) (typed : List Key) (learned : ℕ → Option Value) (sent 
         accepted = λ i b s v h. grind (arith, nat_tests, cases i (Accepted b s v) h, inv.accepted i b s v, still_said (Accept b s v));
         one_value = one_value;
         submitted = λ b s v said.
-            grind (arith, nat_tests, proposal said.0 b s v said.1, still_said (Submit v), safe_holds b s v inv, inv.submitted b s v);
+            grind (arith, nat_tests, proposal b s v said, still_said (Submit v), safe_holds b s v inv, inv.submitted b s v);
         kept = kept;
         right = right;
         held = λ i b s reported h. grind (arith, nat_tests, promise_cases i b s reported h, inv.held i b s reported);
@@ -166,7 +140,7 @@ module _ (size : ℕ) (typed : List Key) (learned : ℕ → Option Value) (sent 
         ];
         decided = λ c s w said b below. (
             let d : IsDecided size sent records b s w =
-            grind (arith, nat_tests, proposal said.0 c s w said.1, safe_holds c s w inv, inv.decided c s w) in
+            grind (arith, nat_tests, proposal c s w said, safe_holds c s w inv, inv.decided c s w) in
             record {
               members = d.members;
               majority = d.majority;

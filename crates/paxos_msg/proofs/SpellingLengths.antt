@@ -8,29 +8,21 @@ use Rattle.paxos_msg.specs.declared.value.Value.TheVariants.{Noop, Keys}
 use Rattle.paxos_msg.specs.Batches.{Body, Msg, Vote}
 use Rattle.paxos_msg.specs.declared.message.Group.{Group}
 use Rattle.paxos_msg.specs.declared.message.Body.TheVariants.{Promise}
-use Rattle.paxos_msg.specs.Fits.{AreVotes, IsValue, IsVote}
+use Rattle.paxos_msg.specs.Fits.{AreVotes, IsValue}
 use Rattle.paxos_msg.specs.Bodies.{IsBody, body_bytes, HasUpTo}
 use Rattle.paxos_msg.specs.Datagrams.{Fits, spelling}
-use Rattle.paxos_msg.specs.Spelling.{value_bytes, vote_bytes, votes_bytes}
+use Rattle.paxos_msg.specs.Spelling.{value_bytes, votes_bytes}
 use Rattle.paxos_msg.specs.declared.limits.TheConstants.{MOST_VOTES}
 
 pub value_short : (size : ℕ) (v : Value) → IsValue size v → length (value_bytes v) ≤ 43
 value_short size Noop h = omega arith
 value_short size (Keys node start first bytes) h = omega (arith, h.2.2)
 
-vote_short : (size low upto : ℕ) (b : Ballot) (v : Vote) → IsVote size b low upto v → length (vote_bytes v) ≤ 52
-vote_short size low upto b v h = omega (arith, value_short size v.value h.value)
-
 pub votes_short : (size low upto : ℕ) (b : Ballot) (votes : List Vote) → AreVotes size b low upto votes
     → length (votes_bytes votes) ≤ 52 * length votes
 votes_short size low upto b [] h = omega arith
 votes_short size low upto b (v ∷ votes) h =
-    omega (
-      arith,
-      vote_short size low upto b v h.0,
-      votes_short size (v.place + 1) upto b votes h.1,
-      length-append (vote_bytes v) (votes_bytes votes),
-    )
+    grind (arith, nat_tests, value_short size v.value h.0.value, votes_short size (v.place + 1) upto b votes h.1, length-append)
 
 -- a body in its ranges reports at most 8 votes
 pub few_votes : (size sender : ℕ) (body : Body) → IsBody size sender body → HasUpTo MOST_VOTES body

@@ -1,5 +1,5 @@
 -- Reading votes one after the other.
-use Rattle.std.proofs.Common.{◌≡◌, ℕ, zero, suc, ◌+◌, ◌-◌, ◌<◌, ◌≤◌, List, [], ◌∷◌, length, drop, Result, Ok, Err, refl, ap, ◌∙◌, arith}
+use Rattle.std.proofs.Common.{◌≡◌, ℕ, zero, suc, ◌+◌, ◌-◌, ◌<◌, ◌≤◌, List, [], ◌∷◌, length, drop, Ok, Err, refl, arith}
 use Rattle.std.proofs.lemmas.List.{drop-drop}
 use Rattle.std.proofs.lemmas.Bool.Decides.{nat_tests}
 use Rattle.paxos_msg.specs.declared.ballot.Ballot.{Ballot}
@@ -31,10 +31,6 @@ unfolding votes_left
 few_left zero bytes = omega arith
 few_left (suc n) bytes = grind (arith, nat_tests, few_left n)
 
--- the first vote, and what reading the others gives
-abbrev with_first : Vote → Result (List Vote × List ℕ) WireFault → Result (List Vote × List ℕ) WireFault
-with_first v others = others >>= λ x. Ok (v ∷ x.0, x.1)
-
 module _ (size : ℕ) (b : Ballot) (first upto low : ℕ) where
   -- reading no votes
   pub no_votes : (n : ℕ) (bytes : List ℕ) → n ≡ 0 → votes_at size b first upto low n bytes ≡ Ok (votes_left n bytes, bytes)
@@ -43,7 +39,7 @@ module _ (size : ℕ) (b : Ballot) (first upto low : ℕ) where
 
   -- the first vote is read
   first_at : (n : ℕ) (bytes rest : List ℕ) (v : Vote) → 0 < n → vote_at size b first upto low bytes ≡ Ok (v, rest)
-      → votes_at size b first upto low n bytes ≡ with_first v (votes_at size b first upto (v.place + 1) (n - 1) rest)
+      → votes_at size b first upto low n bytes ≡ (votes_at size b first upto (v.place + 1) (n - 1) rest >>= λ x. Ok (v ∷ x.0, x.1))
   unfolding votes_at
   first_at n bytes rest v lt h = grind (arith, nat_tests)
 
@@ -60,26 +56,18 @@ pub record LeadsTo (size : ℕ) (b : Ballot) (first upto count : ℕ) (bytes : L
   pub err : (e : WireFault) → votes_at size b first upto low left rest ≡ Err e → votes_at size b first upto 0 count bytes ≡ Err e
 
 module _ {size : ℕ} {b : Ballot} {first upto count : ℕ} {bytes : List ℕ} where
-  -- the loop begins with the whole
-  pub at_start : (left : ℕ) → left ≡ count → LeadsTo size b first upto count bytes 0 left bytes
-  at_start left e = rw e (record { ok = λ later h. h; err = λ fault h. h })
-
   -- a vote more is read
   pub goes_on : {low left : ℕ} (less : ℕ) {rest later : List ℕ} {v : Vote} → LeadsTo size b first upto count bytes low left rest
       → less + 1 ≡ left → vote_at size b first upto low rest ≡ Ok (v, later) → raw_vote_at rest ≡ Ok (v, later)
       → LeadsTo size b first upto count bytes (v.place + 1) less later
   goes_on {low} {left} less {rest} {later} {v} so_far one_less h raw =
-      let e : left - 1 ≡ less = omega arith in
-      let lt : 0 < left = omega arith in
-      let read = rw e at (first_at size b first upto low left rest later v lt h) in
       record {
-        ok = λ end k. so_far.ok end (rw (first_left left rest later v lt raw, read, e) (ap (with_first v) k));
-        err = λ fault k. so_far.err fault (rw read (ap (with_first v) k));
+        ok = λ end k. so_far.ok end (grind (arith, first_left left rest later v, first_at size b first upto low left rest later v));
+        err = λ fault k. so_far.err fault (grind (arith, first_at size b first upto low left rest later v));
       }
 
 -- ---- the bytes of a value, after the place and the ballot of its vote
 
 pub ballot_drop : (bytes a b : List ℕ) (n : ℕ) → Takes 4 bytes a → Takes 5 a b → drop n b ≡ drop (9 + n) bytes
 ballot_drop bytes a b n place ballot =
-    ap (λ (t : List ℕ). drop n t) (ballot.1 ∙ ap (λ (t : List ℕ). drop 5 t) place.1 ∙ drop-drop 5 4 bytes)
-    ∙ drop-drop n 9 bytes
+    grind (arith, nat_tests, ballot.1, drop-drop 5 4 bytes, drop-drop n 9 bytes)

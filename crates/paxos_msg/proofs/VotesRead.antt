@@ -1,5 +1,5 @@
 -- Votes: what is read was written, and what is written is read.
-use Rattle.std.proofs.Common.{◌≡◌, ℕ, zero, suc, ◌+◌, ◌≤◌, ltb, leb, ◌||◌, List, [], ◌∷◌, ◌++◌, length, Ok, refl, append_assoc, arith}
+use Rattle.std.proofs.Common.{◌≡◌, ℕ, zero, suc, ◌+◌, ◌≤◌, ltb, List, [], ◌∷◌, ◌++◌, length, Ok, refl, append_assoc, arith}
 use Rattle.std.proofs.lemmas.List.{nil_from_length}
 use Rattle.std.proofs.lemmas.Bool.Decides.{nat_tests}
 use Rattle.paxos_msg.specs.declared.ballot.Ballot.{Ballot}
@@ -8,9 +8,6 @@ use Rattle.paxos_msg.specs.declared.fault.WireFault.TheVariants as fault
 use Rattle.paxos_msg.specs.Fits.{IsVote, AreVotes}
 use Rattle.paxos_msg.specs.Spelling.{vote_bytes, votes_bytes}
 use Rattle.paxos_msg.specs.Reading.{vote_at, votes_at}
-use Rattle.paxos_msg.specs.Tests.{ballot_lt}
-use Rattle.base.proofs.Steps.{unless_ok}
-use Rattle.paxos_msg.proofs.Exact.{not_below}
 use Rattle.paxos_msg.proofs.Fields.{Exact, step, step_if, numbers, ballots}
 use Rattle.paxos_msg.proofs.ValuesRead.{values}
 
@@ -19,18 +16,10 @@ module _ (size : ℕ) (b : Ballot) (first upto : ℕ) (small : upto ≤ 65536) w
   one_vote : (low : ℕ) → Exact (vote_at size b first upto low) (λ v. IsVote size b first upto v × (low ≤ v.place)) vote_bytes
   unfolding vote_at
   one_vote low = record {
-    found = λ bytes v rest are e.
-        step_if numbers bytes fault.Order (λ place. ltb place low) _ _ are e (λ place later below parts are from_low e.
-        let (in_range, e) = unless_ok fault.Place (ltb place first || leb upto place) tt _ _ e in
-        step_if (ballots size) later fault.Ballot (λ ballot. ballot_lt b ballot) _ _ are e (λ ballot later good parts' are not_above e.
-        step (values size) later _ _ are e (λ value later fits parts'' are e.
-        grind (arith, nat_tests, not_below))));
-    again = λ v rest h. grind (arith, nat_tests, numbers.again, (ballots size).again, not_below, (values size).again);
+    found = λ bytes are. step_if numbers bytes fault.Order (λ place. ltb place low) _ _ are (λ place later below parts are from_low.
+        grind (arith, nat_tests, ballots size, values size));
+    again = λ v rest h. grind (arith, nat_tests, numbers.again, (ballots size).again, (values size).again);
   }
-
-  -- a vote from another place on
-  vote_from : (low : ℕ) (v : Vote) → first ≤ low → low ≤ v.place → IsVote size b first upto v → IsVote size b low upto v
-  vote_from low v above le h = grind (arith, nat_tests)
 
   -- the first n votes at places from low on, of which none is below first
   abbrev Reads : ℕ → ℕ → ℕ → Type 0
@@ -52,21 +41,13 @@ module _ (size : ℕ) (b : Ballot) (first upto : ℕ) (small : upto ≤ 65536) w
   -- from is the greater one of low and first
   pub votes : (n low from : ℕ) → low ≤ from → first ≤ from → ((k : ℕ) → low ≤ k → first ≤ k → from ≤ k) → Reads n low from
   unfolding votes_at
-  votes zero low from le above bound = record {
-    found = λ bytes votes rest are e. grind (arith, nat_tests);
-    again = λ votes rest h. grind (arith, nat_tests, nil_from_length votes);
-  }
+  votes zero low from le above bound = grind (arith, nil_from_length)
   votes (suc n) low from le above bound =
       let more : (later : ℕ) → first ≤ later → Reads n later later =
       λ later above. votes n later later (omega arith) above (λ k le above. le) in
       record {
-        found = λ bytes votes rest are e. step (one_vote low) bytes _ _ are e (λ v later one parts are e.
-            step (more (v.place + 1) (omega arith)) later _ _ are e (λ others later good parts' are e.
-            grind (
-              arith,
-              nat_tests,
-              vote_from from v above (bound v.place one.1 one.0.from_low) one.0,
-              append_assoc (vote_bytes v) (votes_bytes others) later,
-            )));
+        found = λ bytes are. step (one_vote low) bytes _ _ are (λ v later one parts are.
+            step (more (v.place + 1) (omega arith)) later _ _ are (λ others later good parts' are.
+            grind (arith, bound v.place one.1 one.0.from_low, one.0, append_assoc)));
         again = some_again n low from le above more;
       }

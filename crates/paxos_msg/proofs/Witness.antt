@@ -25,31 +25,24 @@ at_first =
     record { sent = []; records = r0; grew = g0 }
 
 -- node 2 submits its key, and nodes 1 and 2 promise
-abbrev submits : Grown 3
-submits = and_sent at_first 2 (typed_at 2) (Submit (key_at 2)) (is_typed 2)
-
-abbrev one_promises : Grown 3
-one_promises = promises submits 1 ballot 0 tt refl
-
-abbrev prepares : Grown 3
-prepares = and_sent one_promises 1 [] (Prepare ballot 0) (refl, at_most_refl ballot)
-
 abbrev two_promise : Grown 3
-two_promise = promises prepares 2 ballot 0 tt refl
+two_promise =
+    let submits = and_sent at_first 2 (typed_at 2) (Submit (key_at 2)) (is_typed 2) in
+    let one_promises = promises submits 1 ballot 0 tt refl in
+    let prepares = and_sent one_promises 1 [] (Prepare ballot 0) (refl, at_most_refl ballot) in
+    promises prepares 2 ballot 0 tt refl
 
 safe : IsSafe 3 two_promise.sent ballot 0 (key_at 2)
 safe =
     safe_at_first pair (lit< tt) (promised [] (1, lit< tt, refl), (promised [] (3, lit< tt, refl), tt)) (inr (2, (0, lit< tt, refl)))
 
 -- node 1 proposes the key, and both accept it
-abbrev proposes : Grown 3
-proposes = and_sent two_promise 1 [] (Accept ballot 0 (key_at 2)) (refl, inr (none_proposed two_promise.sent ballot 0 refl, safe))
-
-abbrev one_accepts : Grown 3
-one_accepts = accepts proposes 1 ballot 0 (key_at 2) (1, (4, lit< tt, refl)) (at_most_refl ballot)
-
 abbrev two_accept : Grown 3
-two_accept = accepts one_accepts 2 ballot 0 (key_at 2) (1, (4, lit< tt, refl)) (at_most_refl ballot)
+two_accept =
+    let fresh = none_proposed two_promise.sent ballot 0 refl in
+    let proposes = and_sent two_promise 1 [] (Accept ballot 0 (key_at 2)) (refl, inr (fresh, safe)) in
+    let one_accepts = accepts proposes 1 ballot 0 (key_at 2) (1, (4, lit< tt, refl)) (at_most_refl ballot) in
+    accepts one_accepts 2 ballot 0 (key_at 2) (1, (4, lit< tt, refl)) (at_most_refl ballot)
 
 chosen : IsChosen 3 two_accept.sent 0 (key_at 2)
 chosen = (

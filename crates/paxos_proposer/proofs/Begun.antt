@@ -1,5 +1,5 @@
 -- A proposer that has heard nothing is backed.
-use Rattle.std.proofs.Common.{◌≡◌, ℕ, ◌-◌, ◌≤◌, nat_lt, Bool, true, false, IsTrue, [], replicate, slice_index, slice_get, Some, None, if◌then◌else◌, refl, arith}
+use Rattle.std.proofs.Common.{◌≡◌, ℕ, ◌-◌, ◌≤◌, nat_lt, Bool, IsTrue, [], replicate, slice_index, slice_get, Some, None, if◌then◌else◌, refl, arith}
 use Rattle.std.proofs.lemmas.Bool.{cases_lt, ltb-true}
 use Rattle.std.proofs.lemmas.List.{length-replicate, get_or-replicate, get_or_past}
 use Rattle.std.proofs.lemmas.Bool.Decides.{nat_tests}
@@ -21,8 +21,7 @@ none_covers n i from s le member = grind (arith, nat_tests, ltb-true, replicated
 
 -- and nothing is proposed
 pub none_proposed : (t : Bool) (i : ℕ) (v : Value) → (if t then None else slice_get {X = Value} [] i) ≡ Some v → ⊥
-none_proposed true i v e = cc
-none_proposed false i v e = cc
+none_proposed flag i v e = grind (arith, nat_tests)
 
 pub begun_backed : (sent : Sent) (b : Ballot) (from size : ℕ) → ((s : ℕ) (v : Value) → ¬ IsSaid sent (Accept b s v))
     → IsProposerBacked sent b.node (new_proposer b from size)

@@ -90,10 +90,7 @@ pub votes_of-put : (es fs : List (ℕ × Report)) (s : ℕ) (r : Report)
     → ((q : ℕ) → lookup (nat_eq q) fs ≡ cond (nat_eq s q) (Some r) (lookup (nat_eq q) es))
     → reported_votes fs ≡ with_vote (reported_votes es) (vote_of s r)
 votes_of-put es fs s r put =
-    same_votes _ _ (ascending_of fs) (ascending_with (reported_votes es) (vote_of s r) (ascending_of es))
-    (λ q.
-    let with_one = vote_at-with_vote (reported_votes es) (vote_of s r) q in
-    grind (arith, nat_tests, vote_at-votes_of fs q, put q, with_one, vote_at-votes_of es q))
+    grind (arith, same_votes, ascending_of, ascending_with, vote_at-with_vote, vote_at-votes_of)
 
 -- where all are from a place on, none is below it
 none_below : (s q : ℕ) (votes : List Vote) → q < s → All (λ vote. s ≤ vote.place) votes → kept_vote_at votes q ≡ None
@@ -106,8 +103,4 @@ none_below s q (x ∷ xs) lt h =
 pub votes_of-cut : (es fs : List (ℕ × Report)) (s : ℕ) → ((q : ℕ) → lookup (nat_eq q) fs ≡ cond (nat_eq s q) None (lookup (nat_eq q) es))
     → All (λ vote. s ≤ vote.place) (reported_votes es) → reported_votes fs ≡ votes_from (s + 1) (reported_votes es)
 votes_of-cut es fs s cut from =
-    let left = votes_from (s + 1) (reported_votes es) in
-    same_votes _ _ (ascending_of fs) (ascending_left (s + 1) (reported_votes es) (ascending_of es)) (λ q.
-    let none = λ (low : q < s + 1). none_below (s + 1) q left low (left_from (s + 1) (reported_votes es)) in
-    let before = λ (low : q < s). none_below s q (reported_votes es) low from in
-    grind (arith, nat_tests, vote_at-votes_of fs q, cut q, vote_at-votes_of es q, none, before, left_at (s + 1) q (reported_votes es)))
+    grind (arith, same_votes, ascending_of, ascending_left, none_below, left_from, vote_at-votes_of, left_at)

@@ -3,7 +3,7 @@ use Rattle.std.proofs.Common.{◌≡◌, ℕ, ◌+◌, ◌≤◌, nat_eq, nat_le
 use Rattle.std.specs.Prelude.{All}
 use Rattle.std.specs.Option.{option_cmp, option_eq}
 use Rattle.std.specs.Ordering.{nat_cmp, ord_max}
-use Rattle.std.proofs.lemmas.Bool.{eqb-false, eqb-true, le-leb, lt-leb}
+use Rattle.std.proofs.lemmas.Bool.{eqb-true, le-leb, lt-leb}
 use Rattle.std.proofs.lemmas.Bool.Decides.{nat_tests}
 use Rattle.std.proofs.lemmas.List.Elements.{All-head}
 use Rattle.paxos_msg.specs.Batches.{Vote}
@@ -28,8 +28,7 @@ is_kept_from-votes_from (x ∷ xs) n s = grind (arith, nat_tests, is_kept_from-v
 -- a place is up to the greater of two if it is up to one of them
 raised : (greatest : Option ℕ) (place s : ℕ)
     → nat_le s place || is_upto greatest s ≡ is_upto (ord_max (option_cmp nat_cmp) greatest (Some place)) s
-raised None place s = grind arith
-raised (Some g) place s = grind (arith, nat_tests)
+raised o place s = grind (arith, nat_tests)
 
 pub greatest-put : (votes : List Vote) (greatest : Option ℕ) (vote : Vote) → IsGreatestPlace votes greatest
     → IsGreatestPlace (with_vote votes vote) (ord_max (option_cmp nat_cmp) greatest (Some vote.place))
@@ -56,14 +55,5 @@ pub greatest-left : (votes : List Vote) (greatest : Option ℕ) (place : ℕ)
 greatest-left votes None place e from h = grind (arith, nat_tests, is_kept_from-votes_from)
 greatest-left votes (Some g) place e from h = record {
   upto = λ s.
-      grind (
-        arith,
-        nat_tests,
-        is_kept_from-votes_from votes (place + 1) s,
-        h.upto (max (place + 1) s),
-        h.upto place,
-        h.upto 0,
-        any_from place votes from,
-        eqb-false g place,
-      );
+      grind (arith, is_kept_from-votes_from votes (place + 1) s, any_from place votes from);
 }

@@ -1,5 +1,5 @@
 -- What a proposer keeps and proposes stays in its ranges.
-use Rattle.std.proofs.Common.{◌≡◌, ◌∙◌, ℕ, ◌+◌, ◌≤◌, max, List, [], ◌∷◌, slice_set, Option, Some, None, IfSome, if◌then◌else◌, inl, inr, refl, sym, subst, arith}
+use Rattle.std.proofs.Common.{◌≡◌, ◌∙◌, ℕ, ◌+◌, ◌≤◌, max, List, [], ◌∷◌, slice_set, Option, Some, None, IfSome, if◌then◌else◌, inl, inr, refl, sym, arith}
 use Rattle.std.specs.Prelude.{All}
 use Rattle.std.proofs.lemmas.Bool.{cases_eq, cases_lt}
 use Rattle.std.proofs.lemmas.List.{set_past}
@@ -55,8 +55,7 @@ module _ (p : Proposer) (h : IsProposerInRange p) where
   kept_or : (kept : Option Vote) (other : Option Value) (v : Value) → value_or kept other ≡ Some v
       → ((vote : Vote) → kept ≡ Some vote → IsValue p.size vote.value) → IfSome other (IsValue p.size)
       → IsValue p.size v
-  kept_or None other v e fits free = rw e at free
-  kept_or (Some vote) other v e fits free = let is : vote.value ≡ v = cc in subst (IsValue p.size) is (fits vote refl)
+  kept_or o other v e fits free = grind (arith, nat_tests)
 
   next_fits : (offered : Option Value) (v : Value) → IfSome offered (IsValue p.size) → next_value p offered ≡ Some v
       → IsPlace (next_of p) × IsValue p.size v

@@ -1,9 +1,8 @@
 -- A part raises an acceptor's coverage, and the kept votes stay the greatest that were reported.
-use Rattle.std.proofs.Common.{◌≡◌, ◌≢◌, ℕ, ◌<◌, ◌≤◌, max, Bool, true, false, IsTrue, ◌⊎◌, inl, inr, List, length, slice_index, slice_set, ◌==◌, Option, Some, None, IfSome, if◌then◌else◌, refl, arith}
+use Rattle.std.proofs.Common.{◌≡◌, ◌≢◌, ℕ, ◌<◌, ◌≤◌, max, Bool, true, false, IsTrue, ◌⊎◌, inl, inr, List, length, slice_index, slice_set, ◌==◌, Option, Some, None, IfSome, if◌then◌else◌, refl, arith, rules}
 use Rattle.std.proofs.lemmas.Bool.{lt-ltb, cases_eq, cases_lt, eq-eqb, ne_eqb}
 use Rattle.std.proofs.lemmas.Bool.Decides.{nat_tests}
 use Rattle.std.proofs.lemmas.List.{get_or-set_same, get_or-set_other, length-set}
-use Rattle.std.proofs.lemmas.Option.{IfSome_then}
 use Rattle.paxos_msg.specs.declared.ballot.Ballot.{Ballot}
 use Rattle.paxos_msg.specs.Batches.{Sent, Vote}
 use Rattle.paxos_msg.specs.declared.message.Body.TheVariants.{Promise}
@@ -19,10 +18,6 @@ use Rattle.paxos_proposer.proofs.Reported.{AreByPlace, merged, are_ascending, no
 
 at_most_refl : (a : Ballot) → IsAtMost a a
 at_most_refl a = grind arith
-
--- what is at most a ballot is at most each greater one
-at_most_less : (a b c : Ballot) → IsAtMost a b → ballot_lt b c ≡ true → IsAtMost a c
-at_most_less a b c h e = grind (arith, nat_tests)
 
 -- a ballot that is not below another is not below it
 not_less : (b c : Ballot) → ballot_lt b c ≡ false → IsAtMost c b
@@ -56,12 +51,7 @@ module _ (coverages : List ℕ) (j upto s : ℕ) (node : j < length coverages) (
 
   new_best : (y : Vote) → ((i : ℕ) → IsTrue (before i) → IfSome (reported i) (λ other. IsAtMost other.ballot y.ballot))
       → IsGreatest after (with_report reported j (Some y)) y
-  new_best y small = record {
-    reporter = j;
-    is_member = rw (get_or-set_same coverages j upto 0 node) (lt-ltb s upto below);
-    reports = rw (eq-eqb j j refl) refl;
-    greatest = each (Some y) (λ i r. IfSome r (λ other. IsAtMost other.ballot y.ballot)) (at_most_refl y.ballot) small;
-  }
+  new_best y small = search (rules, get_or-set_same coverages j upto 0 node, lt-ltb s upto below)
 
   best_heard : (kept new : Option Vote) → IsBest before reported kept → IsBest after (with_report reported j new) (merged kept new)
   best_heard None None silent = each None (λ i r. r ≡ None) refl silent
@@ -72,8 +62,7 @@ module _ (coverages : List ℕ) (j upto s : ℕ) (node : j < length coverages) (
       by_test : (t : Bool) → ballot_lt x.ballot y.ballot ≡ t
           → IsBest after (with_report reported j (Some y)) (Some (if t then y else x))
       by_test true e =
-          new_best y (λ i member. IfSome_then (reported i) (great.greatest i member)
-          (λ other h. at_most_less other.ballot x.ballot y.ballot h e))
+          grind (arith, nat_tests, new_best)
       by_test false e = stays_best (Some y) x great (not_less x.ballot y.ballot e)
 
 part_heard : (sent : Sent) (b : Ballot) (coverages : List ℕ) (j first upto : ℕ) (votes : List Vote) (s : ℕ)
@@ -85,15 +74,7 @@ part_heard sent b coverages j first upto votes s kept node is_sent from old belo
   reported = with_report h.reported j (kept_vote_at votes s);
   promised =
       each coverages j upto s node old below h.reported (kept_vote_at votes s) (λ i r. IsPromised sent i b s r)
-      (record {
-        first = first;
-        upto = upto;
-        votes = votes;
-        is_sent = is_sent;
-        from_first = omega arith;
-        below_upto = below;
-        reports = refl;
-      }) h.promised;
+      (grind arith) h.promised;
   is_best = best_heard coverages j upto s node old below h.reported kept (kept_vote_at votes s) h.is_best;
 }
 
@@ -155,5 +136,4 @@ pub part_backed : AreByPlace → (sent : Sent) (me j first upto : ℕ) (p : Prop
     → IsSent sent j (Promise p.ballot first upto votes)
     → IsProposerBacked sent me (proposer_after_part p j first upto votes)
 part_backed by_place sent me j first upto p votes h node body is_sent =
-    let ten : length p.coverages ≡ 10 = h.nodes in
-    by_rise by_place sent me p h j first upto votes (omega arith) body.5 is_sent (rises p j first upto) refl
+    grind (arith, by_rise by_place sent me p h j first upto votes (omega arith) body.5 is_sent (rises p j first upto) refl)

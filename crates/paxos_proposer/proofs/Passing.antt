@@ -1,5 +1,5 @@
 -- Dropping the votes that a proposer has passed.
-use Rattle.std.proofs.Common.{◌≡◌, ℕ, ◌≤◌, nat_le, nat_lt, ◌==◌, Bool, true, false, List, [], ◌∷◌, Option, Some, None, refl, arith}
+use Rattle.std.proofs.Common.{◌≡◌, ℕ, ◌≤◌, nat_le, nat_lt, ◌==◌, Bool, true, false, List, [], ◌∷◌, Option, Some, refl, arith}
 use Rattle.std.specs.Prelude.{All}
 use Rattle.std.proofs.lemmas.Bool.{leb-true}
 use Rattle.std.proofs.lemmas.Bool.Decides.{nat_tests}
@@ -8,7 +8,6 @@ use Rattle.base.proofs.Branches.{either}
 use Rattle.paxos_msg.specs.Batches.{Vote}
 use Rattle.paxos_msg.specs.Messages.{kept_vote_at}
 use Rattle.paxos_msg.specs.Records.{with_vote}
-use Rattle.paxos_msg.specs.Tests.{ballot_lt}
 use Rattle.paxos_proposer.specs.Proposer.{greater, heard, heard_one}
 use Rattle.paxos_msg.specs.Places.{votes_from}
 
@@ -44,8 +43,7 @@ module _ (P : Vote → Type 0) where
       (All-cons P x (with_vote xs vote) (All-head P x xs h) (with_all xs vote p (All-tail P x xs h))))
 
   greater_all : (o : Option Vote) (vote : Vote) → ((k : Vote) → o ≡ Some k → P k) → P vote → P (greater o vote)
-  greater_all None vote h p = p
-  greater_all (Some k) vote h p = either P (ballot_lt k.ballot vote.ballot) p (h k refl)
+  greater_all o vote h p = grind (arith, nat_tests)
 
   one_all : (t : Bool) (low : ℕ) (kept : List Vote) (vote : Vote) → nat_le low vote.place ≡ t → All P kept
       → (low ≤ vote.place → P vote) → All P (heard_one low kept vote)

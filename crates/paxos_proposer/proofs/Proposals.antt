@@ -1,5 +1,5 @@
 -- What a proposer proposes may be sent, and the proposer is backed again.
-use Rattle.std.proofs.Common.{◌≡◌, ◌≢◌, ℕ, zero, suc, ◌+◌, ◌-◌, ◌∙◌, Bool, true, false, ◌⊎◌, inl, inr, List, [], ◌∷◌, ◌++◌, length, slice_get, Option, Some, None, IfSome, if◌then◌else◌, sym, ap, refl, arith}
+use Rattle.std.proofs.Common.{◌≡◌, ◌≢◌, ℕ, zero, suc, ◌+◌, ◌-◌, ◌∙◌, Bool, true, ◌⊎◌, inl, inr, List, [], ◌∷◌, ◌++◌, length, slice_get, Option, Some, None, IfSome, if◌then◌else◌, sym, ap, refl, arith}
 use Rattle.std.proofs.lemmas.Bool.{le-ltb, lt-ltb, cases_eq, cases_lt}
 use Rattle.std.proofs.lemmas.List.{length_push}
 use Rattle.std.proofs.lemmas.List.Elements.{Contains-push, Contains-push_cases}
@@ -45,8 +45,7 @@ none_next p = grind (arith, nat_tests, le-ltb, slice_get_past)
 -- ---- the value at the next place
 
 pub if_some : {X : Type 0} (t : Bool) (x : Option X) (v : X) → (if t then x else None) ≡ Some v → (t ≡ true) × (x ≡ Some v)
-if_some true x v e = (refl, e)
-if_some false x v e = cc
+if_some flag x v e = grind (arith, nat_tests)
 
 module _ (sent : Sent) (me : ℕ) (p : Proposer) (h : IsProposerBacked sent me p) (v : Value) where
   value_safe : (offered : Option Value) → IfSome offered (IsFree sent) → next_value p offered ≡ Some v

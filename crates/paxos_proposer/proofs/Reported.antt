@@ -52,15 +52,6 @@ found_later x xs s ne = rw (ne_eqb x.place s ne)
 -- ---- what is kept
 
 module _ (by_place : AreByPlace) where
-  -- a report counts at its place, if that is not below low
-  one_here : (low s : ℕ) (kept : List Vote) (vote : Vote) → low ≤ s → vote.place ≡ s
-      → kept_vote_at (heard_one low kept vote) s ≡ Some (greater (kept_vote_at kept s) vote)
-  one_here low s kept vote le e = grind (arith, nat_tests)
-
-  -- and nowhere else
-  one_there : (low s : ℕ) (kept : List Vote) (vote : Vote) → vote.place ≢ s → kept_vote_at (heard_one low kept vote) s ≡ kept_vote_at kept s
-  one_there low s kept vote ne = grind (arith, nat_tests)
-
   -- a report at a place below low changes nothing
   one_low : (low s : ℕ) (kept : List Vote) (vote : Vote) → s < low → kept_vote_at (heard_one low kept vote) s ≡ kept_vote_at kept s
   one_low low s kept vote lt = grind (arith, nat_tests)
@@ -76,11 +67,4 @@ module _ (by_place : AreByPlace) where
   heard_from low s kept [] le h = refl
   heard_from low s kept (x ∷ xs) le h =
       let none = λ (e : x.place ≡ s). none_above xs s (rw e at h.0) in
-      grind (
-        arith,
-        nat_tests,
-        heard_from low s (heard_one low kept x) xs le h.1,
-        none,
-        one_here low s kept x,
-        one_there low s kept x,
-      )
+      grind (arith, nat_tests, heard_from low s (heard_one low kept x) xs le h.1)

@@ -1,7 +1,7 @@
 -- One value is chosen at a place, and it was submitted or is the no-op.
-use Rattle.std.proofs.Common.{inl, inr, sym}
+use Rattle.std.proofs.Common.{arith, inl, inr, sym}
 use Rattle.paxos_msg.proofs.Agreement.{chosen_proposed, invariant_of, later_same}
-use Rattle.paxos_msg.proofs.BallotOrder.{at_most_from_below, order_cases}
+use Rattle.paxos_msg.proofs.BallotOrder.{order_cases}
 use Rattle.paxos_msg.proofs.laws.agreement.Goals as goal
 
 pub returns : goal.returns
@@ -9,7 +9,7 @@ returns c = record {
   one_value = λ size s sent records v w grew by_v by_w.
       (let inv = invariant_of grew in
       elim (order_cases by_v.0 by_w.0) [
-        | inl below ↦ sym (later_same inv by_v.1 by_w.0 w (chosen_proposed inv by_w.1) (at_most_from_below by_v.0 by_w.0 below))
+        | inl below ↦ sym (later_same inv by_v.1 by_w.0 w (chosen_proposed inv by_w.1) (grind arith))
         | inr at_most ↦ later_same inv by_w.1 by_v.0 v (chosen_proposed inv by_v.1) at_most
       ]);
   kept = λ size s sent records b c v w grew chosen. later_same (invariant_of grew) chosen c w;

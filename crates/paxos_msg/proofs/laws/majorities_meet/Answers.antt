@@ -1,5 +1,5 @@
--- The theorem of `Meeting`.
-use Rattle.paxos_msg.proofs.Meeting.{majorities_meet}
+-- The theorem of `CountingNodes`.
+use Rattle.paxos_msg.proofs.CountingNodes.{majorities_meet}
 use Rattle.paxos_msg.proofs.laws.majorities_meet.Goals as goal
 
 pub returns : goal.returns

@@ -16,14 +16,13 @@ same_keys v = grind (arith, nat_tests)
 
 as_single : (size : ℕ) (v : Value) → IsValue size v → IsSingle v → (old : Option Key) × (v ≡ as_batch old)
 as_single size Noop h single = (None, refl)
-as_single size (Keys node start first []) h single = absurd (omega (arith, h.2.1))
 as_single size (Keys node start first (byte ∷ [])) h single =
     (Some (record { node = node; start = start; serial = first; byte = byte }), refl)
-as_single size (Keys node start first (byte ∷ more ∷ bytes)) h single = absurd (omega (arith, single))
+as_single size (Keys node start first other) h single = absurd (omega (arith, h.2.1, single))
 
 pub returns : goal.returns
 returns c = record {
-  single = λ size v h. (as_single size v h, λ old. grind (arith, nat_tests));
+  single = λ size v h. (as_single size v h, grind (arith, nat_tests));
   grew = λ size sent records grew. grew_still as_batch single_keys batches refl same_keys grew;
   chosen = λ size s sent v chosen. chosen_still as_batch size sent s v chosen;
   keys = same_keys;

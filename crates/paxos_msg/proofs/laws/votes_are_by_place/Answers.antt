@@ -1,6 +1,5 @@
--- The theorems of `WithVote` and `Ascending`.
-use Rattle.paxos_msg.proofs.WithVote.{vote_at-with_vote_same, vote_at-with_vote_other, vote_found}
-use Rattle.paxos_msg.proofs.Ascending.{ascending_with}
+-- The theorems of `VotesByPlace`.
+use Rattle.paxos_msg.proofs.VotesByPlace.{ascending_with, vote_at-with_vote_same, vote_at-with_vote_other, vote_found}
 use Rattle.paxos_msg.proofs.laws.votes_are_by_place.Goals as goal
 
 pub returns : goal.returns

@@ -1,10 +1,7 @@
-use Rattle.std.proofs.Common.{◌+◌, ◌-◌, arith}
+use Rattle.std.proofs.Common.{arith}
 use Rattle.std.proofs.lemmas.Result.{err_from_is_err_and}
-use Rattle.paxos_msg.proofs.VotesLeft.{at_start, goes_on, fault_at, no_votes}
+use Rattle.paxos_msg.proofs.VotesLeft.{goes_on, fault_at, no_votes}
 use Rattle.paxos_msg.proofs.reading.after_votes.Goals as goal
-
-pub loop-init : goal.loop-init
-loop-init c = at_start (c.args.count - 0) (omega arith)
 
 pub returns-in_err-place-clause-exact : goal.returns-in_err-place-clause-exact
 returns-in_err-place-clause-exact c =
@@ -13,8 +10,7 @@ returns-in_err-place-clause-exact c =
 
 pub loop-preserved : goal.loop-preserved
 loop-preserved c =
-    let one = c.in_ok-place.ensures.read in
-    rw (← one.at_place) (goes_on (c.args.count - (c.loop.counter + 1)) c.loop.invariant (omega arith) one.read one.raw)
+    grind (arith, goes_on)
 
 pub returns-clause-exact : goal.returns-clause-exact
 returns-clause-exact c = c.loop.invariant.ok c.loop.rest.now (no_votes _ _ _ _ _ _ _ (omega arith))

@@ -1,5 +1,5 @@
-use Rattle.std.proofs.Common.{◌∙◌}
-use Rattle.paxos_msg.proofs.Ascending.{ascending_with, put_over, put_between}
+use Rattle.std.proofs.Common.{arith}
+use Rattle.paxos_msg.proofs.VotesByPlace.{ascending_with, put_over, put_between}
 use Rattle.paxos_msg.proofs.voted.insert_vote.Goals as goal
 
 pub returns-in-Ok-clause-ok : goal.returns-in-Ok-clause-ok
@@ -11,8 +11,7 @@ returns-in-Ok-clause-ascending c =
 
 pub returns-in_ok-insert-in-Err-clause-ok : goal.returns-in_ok-insert-in-Err-clause-ok
 returns-in_ok-insert-in-Err-clause-ok c =
-    c.in_ok-insert-in-Err.ensures.items
-    ∙ put_between _ _ _ (rw c.deref.ensures.value at c.in-Err.ensures.absent)
+    grind (arith, put_between)
 
 pub returns-in_ok-insert-in-Err-clause-ascending : goal.returns-in_ok-insert-in-Err-clause-ascending
 returns-in_ok-insert-in-Err-clause-ascending c =

@@ -1,4 +1,4 @@
-use Rattle.std.proofs.Common.{rules, inr}
+use Rattle.std.proofs.Common.{rules, inr, arith}
 use Rattle.paxos_disk.proofs.Restarts.{IsBegunOn, IsDoneOn, begun_from, done_from}
 use Rattle.paxos_disk.proofs.log_store.LogStoreStore.save.Given as given
 use Rattle.paxos_disk.proofs.log_store.LogStoreStore.save.Goals.{After-form_after, After-put_synced}
@@ -41,12 +41,7 @@ returns-then-is_err-clause-restarts g c =
 
 pub invariant_of-self-2 : goal.invariant_of-self-2
 invariant_of-self-2 g c =
-    let is = done g (goal.at.invariant_of-self-2 g c).After-form_after in
-    record {
-      filed = (c.in_ok-patch.ensures.makes.ranges, c.form_after.ensures.fits c.self.inside.me c.patch_of.new.kept);
-      good = λ h. (is h).good_now;
-      known = λ h. rw c.in_ok-patch.ensures.makes.ok (is h).knows;
-    }
+    grind (arith, done g (goal.at.invariant_of-self-2 g c).After-form_after, goal.at.invariant_of-self-2 g c)
 
 pub returns-clause-saved : goal.returns-clause-saved
 returns-clause-saved g c = rw (← c.self.view_is) (λ h. (done g (goal.at.returns-clause-saved g c).After-form_after h).saved)

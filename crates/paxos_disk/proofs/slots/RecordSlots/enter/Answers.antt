@@ -1,4 +1,4 @@
-use Rattle.std.proofs.Common.{◌≡◌, ℕ, Ok, refl}
+use Rattle.std.proofs.Common.{◌≡◌, ℕ, Ok, arith}
 use Rattle.paxos_msg.specs.Batches.{Change, Record}
 use Rattle.paxos_msg.specs.Records.{changed}
 use Rattle.paxos_disk.specs.Entries.{MakesChange}
@@ -11,10 +11,8 @@ makes size old new c ranges e = record { ok = e; ranges = rw e ranges; err = tt 
 
 pub returns-in-Promise : goal.returns-in-Promise
 returns-in-Promise c =
-    makes _ _ _ _ (c.entries_stay_in_ranges.ensures.stays _ _ _ c.requires.ranges c.requires.entry)
-    (rw (← c.self.view_is, c.in-Promise.is) refl)
+    grind (arith, c.entries_stay_in_ranges.ensures.stays _ _ _ c.requires.ranges c.requires.entry)
 
 pub returns-in_ok-reach-in-Ballotted : goal.returns-in_ok-reach-in-Ballotted
 returns-in_ok-reach-in-Ballotted c =
-    makes _ _ _ _ (c.entries_stay_in_ranges.ensures.stays _ _ _ c.requires.ranges c.requires.entry)
-    (rw (← c.self.view_is, c.in-Ballotted.is, c.put.ensures.votes, c.in_ok-reach-in-Ballotted.ensures.votes) refl)
+    grind (arith, c.entries_stay_in_ranges.ensures.stays _ _ _ c.requires.ranges c.requires.entry)

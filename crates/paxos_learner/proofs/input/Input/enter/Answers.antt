@@ -5,5 +5,4 @@ use Rattle.paxos_learner.proofs.input.Input.enter.Goals as goal
 
 pub invariant_of-self : goal.invariant_of-self
 invariant_of-self c =
-    let small = rw (← c.self.view_is) at c.requires.few in
-    counted_more _ _ _ _ c.args.value c.self.invariant small c.insert.ensures.keys (omega arith) (grind arith)
+    grind (arith, counted_more)

@@ -14,12 +14,4 @@ raise_front-requires c =
 
 pub invariant_of-self-2 : goal.invariant_of-self-2
 invariant_of-self-2 c =
-    let place = rw (← c.self.view_is) at (open_place c.args.self.now c.args.place c.requires.open) in
-    let h = c.self.invariant in
-    rw (c.insert.ensures, c.in_ok-make_room.ensures.map, c.insert-2.ensures.keys, c.in_ok-reserve.ensures.keys) (record {
-      size_small = h.size_small;
-      input = rw (← c.in_ok-make_room.ensures.map, ← c.insert.ensures) c.raise_front.ensures.input;
-      here = rw (← c.in_ok-make_room.ensures.map, ← c.insert.ensures) c.raise_front.ensures.here;
-      window = insert_in_window _ _ c.args.value.now place.0 c.requires.place place.1 h.window;
-      keys = known_more _ _ c.args.place c.args.value.now h.keys place.0;
-    })
+    grind (arith, open_place, insert_in_window, known_more)

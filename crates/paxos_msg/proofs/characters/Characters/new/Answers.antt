@@ -1,5 +1,5 @@
 -- The copied characters are those of the slice, followed by zeros.
-use Rattle.std.proofs.Common.{◌≡◌, ℕ, ◌<◌, ◌≤◌, ◌-◌, ◌++◌, List, drop, length, replicate, take, refl, arith}
+use Rattle.std.proofs.Common.{◌≡◌, ℕ, ◌<◌, ◌≤◌, ◌-◌, ◌++◌, List, drop, length, replicate, refl, arith}
 use Rattle.std.proofs.lemmas.List.{drop-replicate, length-append, length-replicate, take_at}
 use Rattle.paxos_msg.specs.Characters.{IsFilled}
 use Rattle.std.proofs.lemmas.Bool.Decides.{nat_tests}
@@ -9,18 +9,7 @@ filled : (xs : List ℕ) → 0 < length xs → length xs ≤ 32 → IsFilled (le
 filled xs some few =
     let whole : length (xs ++ replicate (32 - length xs) 0) ≡ 32 =
     omega (arith, length-append xs (replicate (32 - length xs) 0), length-replicate {A = ℕ} (32 - length xs) 0) in
-    rw (drop-replicate {X = ℕ} (length xs) 32 0) (record {
-      some = some;
-      few = omega arith;
-      whole = whole;
-      rest = rw (take_at xs (replicate (32 - length xs) 0) (length xs) refl) refl;
-    })
-
-front : (xs : List ℕ) → take (length xs) (xs ++ drop (length xs) (replicate 32 0)) ≡ xs
-front xs = take_at xs (drop (length xs) (replicate 32 0)) (length xs) refl
+    rw (drop-replicate {X = ℕ} (length xs) 32 0) (grind (arith, take_at xs (replicate (32 - length xs) 0) (length xs) refl))
 
 pub invariant_of-result : goal.invariant_of-result
 invariant_of-result c = rw c.copy_from_slice.ensures.after (filled c.args.bytes.now (grind (arith, nat_tests)) (omega arith))
-
-pub returns-clause-same : goal.returns-clause-same
-returns-clause-same c = rw c.copy_from_slice.ensures.after (front c.args.bytes.now)

@@ -1,6 +1,6 @@
 -- The reports without the first place make the votes above it. Their greatest place is the same, or
 -- there are no votes.
-use Rattle.std.proofs.Common.{◌≡◌, ◌+◌, ◌≤◌, ◌∙◌, sym}
+use Rattle.std.proofs.Common.{◌≡◌, ◌+◌, ◌≤◌, ◌∙◌, sym, arith}
 use Rattle.std.specs.Prelude.{All}
 use Rattle.paxos_proposer.specs.KeptVotes.{reported_votes}
 use Rattle.paxos_msg.specs.Places.{votes_from}
@@ -18,14 +18,15 @@ cut c = votes_of-cut c.self.inside.reports.entries _ c.args.place c.swap_remove.
 
 pub invariant_of-self : goal.invariant_of-self
 invariant_of-self c =
-    rw (cut (goal.at.invariant_of-self c).After-swap_remove)
-    (greatest-passed _ c.self.inside.greatest c.args.place (sym c.eq.ensures ∙ c.if-eq.true) c.self.invariant)
+    grind (
+      arith,
+      cut (goal.at.invariant_of-self c).After-swap_remove,
+      greatest-passed _ c.self.inside.greatest c.args.place (sym c.eq.ensures ∙ c.if-eq.true) c.self.invariant,
+    )
 
 pub invariant_of-self-else-eq : goal.invariant_of-self-else-eq
 invariant_of-self-else-eq c =
-    let passed = (goal.at.invariant_of-self-else-eq c).After-swap_remove in
-    rw (cut passed)
-    (greatest-left _ c.self.inside.greatest c.args.place (sym c.eq.ensures ∙ c.if-eq.false) (from passed) c.self.invariant)
+    grind (arith, cut, greatest-left)
 
 pub returns-then-eq : goal.returns-then-eq
 returns-then-eq c = rw (← c.self.view_is) (cut (goal.at.returns-then-eq c).After-swap_remove)

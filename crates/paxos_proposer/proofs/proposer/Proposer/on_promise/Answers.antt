@@ -13,8 +13,6 @@ invariant_of-self-2 c =
       nodes = search rules;
       reach = search rules;
       ahead =
-          rw c.in_ok-hear_votes.ensures.ok
-          (ahead_heard (c.self.inside.first + length c.self.inside.values.items) c.max-low.result
-          c.self.inside.kept.votes c.iter.result (omega arith) h.ahead);
+          grind (arith, ahead_heard);
       places = h.places;
     }

@@ -1,35 +1,55 @@
--- Votes in ascending order of place: what a search in them finds, and what is put keeps the order.
-use Rattle.std.proofs.Common.{◌≡◌, ◌≢◌, ℕ, zero, suc, ◌<◌, ◌≤◌, List, [], ◌∷◌, length, get_or, set, Some, None, Result, Ok, Err, IfOk, IfErr, refl, sym, arith}
+-- Votes by place: what is found after one more, the order that it keeps, and what a search in that order finds.
+use Rattle.std.proofs.Common.{◌≡◌, ◌≢◌, ◌-◌, ℕ, zero, suc, ◌<◌, ◌≤◌, List, [], ◌∷◌, length, get_or, set, Some, None, Result, Ok, Err, IfOk, IfErr, refl, sym, arith, if◌then◌else◌, eqb, Contains}
 use Rattle.std.specs.List.{insert}
 use Rattle.std.specs.List.Sorted.{IsSearchInRange, IsBinarySearchResult, IsNonDecreasingBy}
 use Rattle.std.specs.Ordering.{nat_cmp, ordering_index}
 use Rattle.std.proofs.lemmas.Cmp.{ranked}
-use Rattle.std.proofs.lemmas.List.Sorted.{IsNonDecreasingBy-from_default}
 use Rattle.std.proofs.lemmas.Bool.{cases_lt, ne_eqb}
 use Rattle.std.proofs.lemmas.Bool.Decides.{nat_tests}
 use Rattle.paxos_msg.specs.Batches.{Vote}
 use Rattle.paxos_msg.specs.Messages.{AreAbove, IsAscending, kept_vote_at}
 use Rattle.paxos_msg.specs.Places.{IsGapIn, IsPlaceIn}
 use Rattle.paxos_msg.specs.Records.{with_vote}
+use Rattle.std.proofs.lemmas.List.Elements.{Contains-append_right}
+
+-- ---- votes after one more
+
+-- after a vote is put, the vote at its place is that one, and at each other place the one before
+pub vote_after : (votes : List Vote) (vote : Vote) (s : ℕ)
+    → kept_vote_at (with_vote votes vote) s ≡ (if eqb s vote.place then Some vote else kept_vote_at votes s)
+vote_after [] vote s = grind (arith, nat_tests)
+vote_after (x ∷ xs) vote s = grind (arith, nat_tests, vote_after xs vote s)
+
+pub vote_at-with_vote_same : (votes : List Vote) (vote : Vote) → kept_vote_at (with_vote votes vote) vote.place ≡ Some vote
+vote_at-with_vote_same votes vote = grind (arith, nat_tests, vote_after votes vote vote.place)
+
+pub vote_at-with_vote_other : (votes : List Vote) (vote : Vote) (s : ℕ) → s ≢ vote.place
+    → kept_vote_at (with_vote votes vote) s ≡ kept_vote_at votes s
+vote_at-with_vote_other votes vote s ne = grind (arith, nat_tests, vote_after votes vote s)
+
+-- a vote that is found is one of the votes, and at the place
+pub vote_found : (votes : List Vote) (s : ℕ) (vote : Vote) → kept_vote_at votes s ≡ Some vote → Contains votes vote × (vote.place ≡ s)
+vote_found [] s vote e = cc
+vote_found (x ∷ xs) s vote e =
+    grind (arith, nat_tests, Contains-append_right (x ∷ []) xs vote, vote_found xs s vote)
+
+-- ---- votes in ascending order of place
 
 -- of votes above a place, each is
 above_at : (votes : List Vote) (s i : ℕ) (d : Vote) → AreAbove s votes → i < length votes → s < (get_or votes i d).place
 above_at [] s i d h k = absurd (omega arith)
-above_at (x ∷ xs) s zero d h k = h.0
-above_at (x ∷ xs) s (suc i) d h k = above_at xs s i d h.1 (omega arith)
+above_at (x ∷ xs) s i d h k = grind (arith, above_at xs s (i - 1) d h.1)
 
 -- the places rise with the index
-pub places_rise : (votes : List Vote) (i j : ℕ) (d : Vote) → IsAscending votes → i < j → j < length votes
+places_rise : (votes : List Vote) (i j : ℕ) (d : Vote) → IsAscending votes → i < j → j < length votes
     → (get_or votes i d).place < (get_or votes j d).place
 places_rise [] i j d h lt k = absurd (omega arith)
-places_rise (x ∷ xs) i zero d h lt k = absurd (omega arith)
-places_rise (x ∷ xs) zero (suc j) d h lt k = above_at xs x.place j d h.0 (omega arith)
-places_rise (x ∷ xs) (suc i) (suc j) d h lt k = places_rise xs i j d h.1 (omega arith) (omega arith)
+places_rise (x ∷ xs) i j d h lt k = grind (arith, above_at xs x.place (j - 1) d h.0, places_rise xs (i - 1) (j - 1) d h.1)
 
 -- what is above a place is above each smaller one
 above_less : (votes : List Vote) (s t : ℕ) → t ≤ s → AreAbove s votes → AreAbove t votes
 above_less [] s t h k = tt
-above_less (x ∷ xs) s t h k = (omega (arith, k.0), above_less xs s t h k.1)
+above_less (x ∷ xs) s t h k = grind (arith, k.0, above_less xs s t h k.1)
 
 -- with a vote above a place, all are above it still
 above_with : (votes : List Vote) (vote : Vote) (s : ℕ) → s < vote.place → AreAbove s votes → AreAbove s (with_vote votes vote)
@@ -42,15 +62,15 @@ ascending_with [] vote h = (tt, tt)
 ascending_with (x ∷ xs) vote h = grind (arith, nat_tests, cases_lt, above_less, above_with, ascending_with xs vote h.1)
 
 -- the comparisons with a place rise along the votes, as a binary search asks
-comparisons_rise : (votes : List Vote) (s : ℕ) (d : Vote) → IsAscending votes
+comparisons_rise : (votes : List Vote) (s : ℕ) → IsAscending votes
     → IsNonDecreasingBy (λ vote. ordering_index (nat_cmp vote.place s)) votes
-comparisons_rise votes s d h = grind (arith, nat_tests, IsNonDecreasingBy-from_default, places_rise)
+comparisons_rise votes s h i j d le lt = grind (arith, nat_tests, cases_lt i j, places_rise votes i j d h)
 
 -- a binary search by place ends at the place, or at the gap for it
-pub searched : (votes : List Vote) (s : ℕ) (d : Vote) → IsAscending votes → (r : Result ℕ ℕ)
+pub searched : (votes : List Vote) (s : ℕ) → IsAscending votes → (r : Result ℕ ℕ)
     → IsSearchInRange r (length votes) → IsBinarySearchResult (λ vote. nat_cmp vote.place s) votes r
     → record { found : IfOk r (IsPlaceIn votes s); absent : IfErr r (IsGapIn votes s) }
-searched votes s d h (Ok at) in_range equal = record {
+searched votes s h (Ok at) in_range equal = record {
   found = record {
     in_range = in_range;
     same = λ d. ranked _ s _ (sym (equal d));
@@ -58,12 +78,12 @@ searched votes s d h (Ok at) in_range equal = record {
   };
   absent = tt;
 }
-searched votes s d h (Err at) in_range parted = record {
+searched votes s h (Err at) in_range parted = record {
   found = tt;
   absent = record {
     in_range = in_range;
-    before = λ j d lt. ranked _ s _ (sym ((parted (comparisons_rise votes s d h)).0 j d (omega arith) lt));
-    after = λ j d le lt. ranked _ s _ (sym ((parted (comparisons_rise votes s d h)).1 j d le lt));
+    before = λ j d lt. ranked _ s _ (sym ((parted (comparisons_rise votes s h)).0 j d (omega arith) lt));
+    after = λ j d le lt. ranked _ s _ (sym ((parted (comparisons_rise votes s h)).1 j d le lt));
   };
 }
 
