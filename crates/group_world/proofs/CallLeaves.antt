@@ -2,9 +2,9 @@
 use Rattle.std.proofs.lemmas.Bool.Decides.{nat_tests}
 use Rattle.std.proofs.lemmas.Option.{get_or_from_slice_get}
 use Rattle.std.proofs.lemmas.List.{append-nil, set-get_or}
-use Rattle.std.proofs.Common.{set, ◌≡◌, ◌∙◌, ℕ, zero, suc, ◌-◌, ◌<◌, Bool, List, ◌++◌, slice_get, slice_set, Option, None, Some, refl, sym, ap, arith}
+use Rattle.std.proofs.Common.{set, ◌≡◌, ◌∙◌, ℕ, ◌-◌, ◌<◌, Bool, List, ◌++◌, slice_get, slice_set, Option, None, Some, refl, sym, ap, arith}
 use Rattle.paxos_msg.specs.declared.value.Value.{Value}
-use Rattle.paxos_msg.specs.Batches.{Change, Record}
+use Rattle.paxos_msg.specs.Batches.{Record}
 use Rattle.paxos_acceptor.specs.declared.me.Me.{Me}
 use Rattle.group_protocol.specs.Known.{Response}
 use Rattle.group_node.specs.Output.{Progress}
@@ -13,12 +13,11 @@ use Rattle.group_world.specs.declared.event.Done.{Done}
 use Rattle.group_world.specs.Deeds.{EndsCall, Left, quietly}
 use Rattle.group_world.specs.Event.{world_after}
 use Rattle.group_world.specs.Group.{World, me_of, member_at, with_member}
-use Rattle.group_world.specs.Member.{CallOutcome, Fell, Happened, Makes, Member, NodeCall, Refused, call_outcome, done_of, failing, member_after, member_after_call, member_after_fall, sent_by, typed_by}
+use Rattle.group_world.specs.Member.{CallOutcome, Fell, Happened, Makes, Member, NodeCall, Refused, call_outcome, done_of, member_after, member_after_call, member_after_fall, sent_by, typed_by}
 
 -- a node of the list has a number, and lies at the index before it
 pub is_at : (members : List Member) (i : ℕ) (m : Member) → member_at members i ≡ Some m → (0 < i) × (slice_get members (i - 1) ≡ Some m)
-is_at members zero m e = absurd cc
-is_at members (suc k) m e = let same : suc k - 1 ≡ k = omega arith in (omega arith, rw same e)
+is_at members n m e = grind (arith, nat_tests)
 
 -- an element that is put where it was
 pub set_same : {X : Type 0} (xs : List X) (k : ℕ) (x : X) → slice_get xs k ≡ Some x → slice_set xs k x ≡ xs
@@ -57,10 +56,9 @@ module _ (w : World) (i : ℕ) (m : Member) (there : member_at w.members i ≡ S
   call_leads : {new : Member} {sent : List Datagram} {typed : List Value} (progress : Progress) (o : CallOutcome)
       → new ≡ member_after m progress o → sent ≡ sent_by (me_of w i) o → typed ≡ typed_by o
       → record (with_member w i new) { sent = w.sent ++ sent; typed = w.typed ++ typed } ≡ group_after w i m progress o
-  call_leads progress (Refused f) left sends types =
-      rw (left, sends, types, set_same w.members (i - 1) m (is_at w.members i m there).1, append-nil w.sent, append-nil w.typed) refl
-  call_leads progress (Fell kept) left sends types = rw (left, sends, types, append-nil w.sent, append-nil w.typed) refl
-  call_leads progress (Happened made keys) left sends types = rw (left, sends, types) refl
+  call_leads progress o left sends types =
+      let same = set_same w.members (i - 1) m (is_at w.members i m there).1 in
+      grind (arith, nat_tests, append-nil w.sent, append-nil w.typed)
 
   pub leaves_so : {left : Left} {d : Done} {v : World} (progress : Progress) (plan : Option Bool) (call : NodeCall)
       → EndsCall (me_of w i) m progress plan call left → d ≡ left.answer → v ≡ world_after w i left → Leaves w i m progress plan call d v
@@ -74,8 +72,7 @@ module _ (w : World) (i : ℕ) (m : Member) (there : member_at w.members i ≡ S
   -- and the node is as it was
   pub idle_leads : {left : Left} → left ≡ quietly m → world_after w i left ≡ w
   idle_leads is =
-      quiet_leads is
-      ∙ ap (λ members. record w { members = members }) (set_same w.members (i - 1) m (is_at w.members i m there).1)
+      grind (arith, quiet_leads is, set_same w.members (i - 1) m (is_at w.members i m there).1)
 
 -- ---- calls that are written out
 
@@ -83,12 +80,9 @@ module _ (w : World) (i : ℕ) (m : Member) (there : member_at w.members i ≡ S
 abbrev pub left_of : Me → Member → Progress → CallOutcome → Left
 left_of me m progress o = record { answer = done_of o; member = member_after m progress o; sent = sent_by me o; typed = typed_by o }
 
-not_failing : (saves : Option Change) → failing saves None ≡ None
-not_failing saves = grind (arith, nat_tests)
-
 -- a call whose save, if it makes one, is kept
 pub kept_call : (me : Me) (m : Member) (progress : Progress) (call : NodeCall) (made : Response) (keys : List Value)
     → call ≡ Makes made keys
     → EndsCall me m progress None call (left_of me m progress (Happened made keys))
 kept_call me m progress call made keys e =
-    rw (e, not_failing made.saves) (record { answer = refl; left = refl; sends = refl; types = refl })
+    grind (arith, nat_tests)

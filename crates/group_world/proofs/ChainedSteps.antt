@@ -45,13 +45,7 @@ module _ (w : WorldState) (i : ℕ) where
   seat_by seat = rw (eq-eqb i i refl) refl
 
   rest_seat : (seat : Seat) → ChangesOnly w (with_seat w i seat) i [] []
-  rest_seat seat = record {
-    program = refl;
-    size = refl;
-    others = λ j other. rw (ne_eqb j i other) refl;
-    sent = sym (append-nil w.sent);
-    typed = sym (append-nil w.typed);
-  }
+  rest_seat seat = grind (arith, append-nil w.sent, append-nil w.typed)
 
   module _ (c : Option Change) (bodies : List Body) (now : Up) (keys : List Key) where
     rest_by : ChangesOnly w (with_call w i c bodies now keys) i bodies keys
@@ -102,11 +96,6 @@ learns_at w was s v none chosen = record {
   released = refl;
   waiting = record { gone = []; parts = refl; below = λ i d below. absurd (omega arith) };
 }
-
--- a call that may fail does not
-not_fallen : {w v : WorldState} {i : ℕ} (c : Option Change) → MakesCall w v i c [] → CallOrFall w v i c
-not_fallen None call = call
-not_fallen (Some c) call = inl call
 
 -- ---- what nodes send and learn
 
@@ -201,20 +190,9 @@ and_then {w} {acts} {more} first rest =
 
 module _ {w : WorldState} (i : ℕ) where
   pub starts : (w.seats i).up ≡ None → Steps w (act.Start i) (with_start w i)
-  starts down = record {
-    by = (
-      deed.Start (w.seats i).kept,
-      ((w.seats i).kept, refl),
-      (
-        down,
-        refl,
-        inl (record {
-          left = seat_by w i _;
-          rest = rest_by w i (Some change.Start) [] (fresh w.program) [];
-        }),
-      ),
-    );
-  }
+  starts down =
+      let rest = rest_by w i (Some change.Start) [] (fresh w.program) [] in
+      record { by = (deed.Start (w.seats i).kept, (_, refl), (down, refl, inl (record { left = seat_by w i _; rest = rest }))) }
 
   module _ (was : Up) (up : (w.seats i).up ≡ Some was) where
     -- a call at which it learns nothing
@@ -226,13 +204,7 @@ module _ {w : WorldState} (i : ℕ) where
     -- a key is typed
     pub presses : (key : Key) → key.node ≡ i → key.start ≡ (w.seats i).kept.starts
         → Steps w (act.Press i key.byte) (with_call w i None [] (typing was (key ∷ [])) (key ∷ []))
-    presses key node start = record {
-      by = (
-        deed.Press key.byte,
-        refl,
-        record { key = key; node = node; start = start; character = refl; call = says None [] (key ∷ []) tt tt },
-      );
-    }
+    presses key node start = grind (arith, says None [] (key ∷ []) tt tt)
 
     -- it campaigns
     pub campaigns : (round from : ℕ) → IfSome (w.seats i).kept.promised (λ p. IsBelow p (ballot_by i round))
@@ -248,23 +220,19 @@ module _ {w : WorldState} (i : ℕ) where
         → Steps w (act.Tick i) (with_call w i None bodies (still was) [])
     ticks bodies sends = record { by = (deed.Tick, refl, says None bodies [] tt sends) }
 
-    -- it hears the message with a number
+    -- it hears the message with a number, by which it makes this call
+    hears_by : (k : ℕ) (m : Msg) (c : Option Change) {v : WorldState} → slice_get w.sent k ≡ Some m → MayCause m.body c
+        → CallOrFall w v i c → Steps w (act.Deliver k i) v
+    hears_by k m c at cause call = record {
+      by = (deed.Hear m, (m, at, refl), record { is_sent = in_from_place w.sent k m at; saved = c; cause = cause; call = call });
+    }
+
+    -- the same with a call at which it learns nothing
     pub hears : (k : ℕ) (m : Msg) (c : Option Change) (bodies : List Body) → slice_get w.sent k ≡ Some m → MayCause m.body c
         → IfSome c (MaySave w.sent (w.seats i).kept)
         → MaySendAll w.size (w.typed ++ []) (get was.learned) w.sent i (after (w.seats i).kept c) bodies
         → Steps w (act.Deliver k i) (with_call w i c bodies (still was) [])
-    hears k m c bodies at cause saves sends = record {
-      by = (
-        deed.Hear m,
-        (m, at, refl),
-        record {
-          is_sent = in_from_place w.sent k m at;
-          saved = c;
-          cause = cause;
-          call = not_fallen c (says c bodies [] saves sends);
-        },
-      );
-    }
+    hears k m c bodies at cause saves sends = hears_by k m c at cause (grind (arith, nat_tests, says c bodies [] saves sends))
 
     -- it votes for what was proposed
     pub votes : (k sender : ℕ) (b : Ballot) (s : ℕ) (v : Value)
@@ -293,9 +261,7 @@ module _ {w : WorldState} (i : ℕ) where
         → Steps w (act.Deliver k i) (with_call w i None [] (knowing was s v) [])
     learns k sender b s v at none nodes n most voted =
         let chosen : IsChosen w.size w.sent s v = (b, chosen_by w.sent nodes n most voted) in
-        let call = makes_call w i None [] (knowing was s v) [] was up tt tt (learns_at w was s v none chosen) in record {
-          by = (deed.Hear _, (_, at, refl), record { is_sent = in_from_place w.sent k _ at; saved = None; cause = refl; call = call });
-        }
+        hears_by k _ None at refl (makes_call w i None [] (knowing was s v) [] was up tt tt (learns_at w was s v none chosen))
 
 -- ---- runs, releases and crashes
 

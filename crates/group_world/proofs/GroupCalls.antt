@@ -1,9 +1,8 @@
 -- A group after each event, by its node after it.
 use Rattle.std.proofs.lemmas.Option.{get_or_from_slice_get}
 use Rattle.std.proofs.lemmas.List.{append-nil}
-use Rattle.std.proofs.Common.{◌≡◌, ◌∙◌, ℕ, zero, suc, ◌-◌, ◌<◌, nat_lt, All, Bool, true, if◌then◌else◌, List, [], ◌∷◌, ◌++◌, get_or, length, slice_get, slice_set, is_some, Option, None, Some, Result, Ok, Err, IfOk, OnErr, OnOk, refl, sym, ap, subst, arith}
+use Rattle.std.proofs.Common.{◌≡◌, ◌∙◌, ℕ, zero, suc, ◌-◌, ◌<◌, All, Bool, List, [], ◌∷◌, ◌++◌, get_or, length, slice_get, slice_set, Option, None, Some, Result, Ok, Err, IfOk, OnErr, OnOk, refl, sym, ap, subst, arith}
 use Rattle.std.proofs.lemmas.Bool.Decides.{nat_tests}
-use Rattle.std.proofs.lemmas.Bool.{ltb-true}
 use Rattle.std.proofs.lemmas.Result.{IfOk-weaker, on_err_weaker}
 use Rattle.std.proofs.lemmas.List.Elements.{All-head, All-tail}
 use Rattle.paxos_msg.specs.declared.value.Value.{Value}
@@ -21,7 +20,7 @@ use Rattle.group_world.specs.declared.event.Act.TheVariants as act
 use Rattle.group_world.specs.declared.event.Done.{Done}
 use Rattle.group_world.specs.declared.event.Done.TheVariants.{Applied}
 use Rattle.group_world.specs.declared.fault.WorldFault.{WorldFault}
-use Rattle.group_world.specs.declared.fault.WorldFault.TheVariants.{NoMessage, NoNode, NodeDown}
+use Rattle.group_world.specs.declared.fault.WorldFault.TheVariants.{NoNode}
 use Rattle.group_world.specs.declared.member.Ask.{Ask}
 use Rattle.group_world.specs.declared.member.Ask.TheVariants.{Campaign, Hear, Tick}
 use Rattle.group_world.specs.Deeds.{DoesDeed, EndsCall, Left, quietly}
@@ -50,18 +49,7 @@ module _ {w was : World} (is : w ≡ was) (i : ℕ) {place : ℕ} {lent : Member
   module _ {m : Member} (there : member_at was.members i ≡ Some m) where
     pub lent_is : lent ≡ m
     lent_is =
-        value ∙ (λ t. get_or (is t).members (at t) lent)
-        ∙ get_or_from_slice_get was.members (i - 1) m lent (is_at was.members i m there).1
-
-    -- the world after a call of the lent node
-    left_so : {sent : List Datagram} {typed : List Value} (packets : List Datagram) (keys : List Value) (new : Member)
-        → sent ≡ w.sent ++ packets → typed ≡ w.typed ++ keys
-        → parts w place new sent typed ≡ parts was (i - 1) new (was.sent ++ packets) (was.typed ++ keys)
-    left_so packets keys new sends types = rw (sends, types, at, is) refl
-
-    -- the world in which node `i` is put where it was, and nothing was sent or typed
-    same_world : parts was (i - 1) m (was.sent ++ []) (was.typed ++ []) ≡ was
-    same_world = rw (set_same was.members (i - 1) m (is_at was.members i m there).1, append-nil was.sent, append-nil was.typed) refl
+        grind (arith, get_or_from_slice_get was.members (i - 1) m lent (is_at was.members i m there).1)
 
     -- what a call of the lent node leaves
     pub call_so : {new : Member} {me : Me} {progress : Progress} {d : Done} {packets : List Datagram} {keys : List Value}
@@ -75,14 +63,7 @@ module _ {w was : World} (is : w ≡ was) (i : ℕ) {place : ℕ} {lent : Member
         (packets : List Datagram) (keys : List Value) → sent ≡ w.sent ++ packets → typed ≡ w.typed ++ keys
         → DoesDeed was.program (me_of was i) m plan deed (record { answer = d; member = new; sent = packets; typed = keys })
         → DoesAt was i plan deed d (parts w place new sent typed)
-    does_so plan deed d new packets keys sends types does = record {
-      node = m;
-      there = there;
-      left = record { answer = d; member = new; sent = packets; typed = keys };
-      does = does;
-      answers = refl;
-      leads = left_so packets keys new sends types;
-    }
+    does_so plan deed d new packets keys sends types does = grind arith
 
     -- one that sends and types nothing
     pub quiet_so : (plan : Option Bool) (deed : Deed) (new : Member)
@@ -99,9 +80,10 @@ module _ {w was : World} (is : w ≡ was) (i : ℕ) {place : ℕ} {lent : Member
     pub unchanged_on_err : {E : Type 0} {sent : List Datagram} {typed : List Value} (new : Member) (packets : List Datagram)
         (r : Result Done E) → sent ≡ w.sent ++ packets → typed ≡ w.typed → OnErr r ((new ≡ lent) × (packets ≡ []))
         → OnErr r (parts w place new sent typed ≡ was)
-    unchanged_on_err new packets r sends types same = on_err_weaker r (λ h.
-        left_so has.2.there packets [] new sends (types ∙ none_more w.typed)
-        ∙ rw (h.0, lent_is has.2.there, h.1) (same_world has.2.there)) same
+    unchanged_on_err new packets r sends types same =
+        let put = set_same was.members (i - 1) has.0 (is_at was.members i has.0 has.2.there).1 in
+        on_err_weaker r
+        (λ h. rw (sends, types, at, is, h.0, lent_is has.2.there, h.1, put, append-nil was.sent) refl) same
 
     -- a press
     pub presses_so : {new : Member} {byte : ℕ} {d : Done} {keys typed : List Value} → IsSound was → (plan : Option Bool) → byte < 256
@@ -143,8 +125,7 @@ module _ {w was : World} (is : w ≡ was) (i : ℕ) {place : ℕ} {lent : Member
     pub runs_so : {new : Member} {steps : ℕ} (plan : Option Bool) → ((q : Running) → lent.node ≡ Some q → RunsMember lent q steps new)
         → DoesAt was i plan (deed.Run steps) Applied (parts w place new w.sent w.typed)
     runs_so {new} {steps} plan runs =
-        quiet_so has.2.there plan (deed.Run steps) new
-        (has.1, has.2.up, rw (lent_is has.2.there) at (runs has.1 lent_up), refl)
+        quiet_so has.2.there plan (deed.Run steps) new (has.1, has.2.up, rw (lent_is has.2.there) at (runs has.1 lent_up), refl)
 
     pub releases_so : (new : Member) (r : Result Done WorldFault) (plan : Option Bool)
         → ((q : Running) → lent.node ≡ Some q → OnOk r (new ≡ member_after_release lent q (next_of q))) → IfOk r (λ d. d ≡ Applied)
@@ -158,9 +139,7 @@ module _ {w was : World} (is : w ≡ was) (i : ℕ) {place : ℕ} {lent : Member
     pub crashes_so : {new : Member} (plan : Option Bool) → new ≡ record lent { node = None }
         → DoesAt was i plan deed.Crash Applied (parts w place new w.sent w.typed)
     crashes_so {new} plan new_is =
-        let (m, q, up) = has in
-        quiet_so up.there plan deed.Crash new
-        (q, up.up, ap quietly (new_is ∙ ap (λ (x : Member). record x { node = None }) (lent_is up.there)))
+        quiet_so has.2.there plan deed.Crash new (has.1, has.2.up, rw (new_is, lent_is has.2.there) refl)
 
 -- ---- a delivery
 
@@ -196,26 +175,21 @@ found_at : (w : World) (i : ℕ) (o : Option Member) (r : Option Member → Opti
     → (m : Member) × (member_at w.members i ≡ Some m) × (r (Some m) ≡ None)
 found_at w i o r e empty none = grind (arith, nat_tests)
 
-up_by : (m : Member) (o : Option Running) → m.node ≡ o
-    → ◌≡◌ {A = Option WorldFault} (if is_some o then None else Some NodeDown) None → (q : Running) × (m.node ≡ Some q)
-up_by m None e none = absurd cc
-up_by m (Some q) e none = (q, e)
+-- its node is up
+has_up : (w : World) (i : ℕ) {m : Member} → member_at w.members i ≡ Some m → unless_up m ≡ None → HasUp w i
+has_up w i {m} there none = by m.node refl where
+  by : (o : Option Running) → m.node ≡ o → HasUp w i
+  by None e = grind (arith, nat_tests)
+  by (Some q) e = (m, q, record { there = there; up = e })
 
 -- an event of a node that has to be up
 pub found_up : (w : World) {said act : Act} → act ≡ said → ((m : Member) → refusal_at w said m ≡ unless_up m)
     → refusal w act ≡ None → HasUp w (node_of said)
 found_up w {said} is at none =
-    let there = found_at w _ _ (refusal_of w said) refl refl (rw is at none) in
-    let up = up_by there.0 there.0.node refl (sym (at there.0) ∙ there.2) in
-    (there.0, up.0, record { there = there.1; up = up.1 })
-
-sent_when : (b : Bool) (o : Option WorldFault) → (if b then o else Some NoMessage) ≡ None → (b ≡ true) × (o ≡ None)
-sent_when b o none = grind (arith, nat_tests)
+    let (m, there, up) = found_at w _ _ (refusal_of w said) refl refl (rw is at none) in has_up w _ there (sym (at m) ∙ up)
 
 -- a delivery
 pub found_sent : (w : World) {k i : ℕ} {a : Act} → a ≡ act.Deliver k i → refusal w a ≡ None → (k < length w.sent) × HasUp w i
 found_sent w {k} {i} is none =
-    let there = found_at w i _ (refusal_of w (act.Deliver k i)) refl refl (rw is at none) in
-    let sent = sent_when (nat_lt k (length w.sent)) _ there.2 in
-    let up = up_by there.0 there.0.node refl sent.1 in
-    (ltb-true k _ sent.0, (there.0, up.0, record { there = there.1; up = up.1 }))
+    let (m, there, sent) = found_at w i _ (refusal_of w (act.Deliver k i)) refl refl (rw is at none) in
+    (grind (arith, nat_tests, sent), has_up w i there (grind (arith, nat_tests, sent)))

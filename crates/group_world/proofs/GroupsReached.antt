@@ -4,7 +4,7 @@
 use Rattle.std.proofs.lemmas.Bool.Decides.{nat_tests}
 use Rattle.std.proofs.Common.{length, ◌==◌, ◌≡◌, ℕ, suc, if◌then◌else◌, [], ◌∷◌, drop, take, Option, IfSome, Some, None, inl, inr, refl, arith, lit<, ◌++◌, ◌∙◌}
 use Rattle.std.specs.Ordering.{nat_cmp}
-use Rattle.std.specs.FinMap.{empty, get-empty, insert, get}
+use Rattle.std.specs.FinMap.{empty, get-empty, insert}
 use Rattle.pcode_file.specs.Parts.{Parts}
 use Rattle.paxos_msg.specs.declared.ballot.Ballot.{Ballot}
 use Rattle.paxos_msg.specs.declared.message.Body.TheVariants.{Promise, Accepted, Submit}
@@ -21,11 +21,10 @@ use Rattle.group_world.specs.RightGroups.{LeadsInSteps, first_batch, takeover_ac
 use Rattle.group_world.proofs.ChainedSteps.{◌▸◌, Reaches, and_then, ballot_1, campaigns, hears, key_1, knowing, learns, presses, proposes, report, starts, stop, ticks, typed_by, typing, votes, StepLaw, releases, runs, crashes, released, promised, safe_at_first}
 use Rattle.group_world.proofs.WrittenVotes.{are_chosen, at_listed, chosen_by, has_learned}
 use Rattle.std.proofs.lemmas.Bool.{eq-eqb}
-use Rattle.pcode_machine.specs.Configuration.{Configuration}
 use Rattle.pcode_machine.specs.Runs.{after_steps}
 use Rattle.paxos_learner.specs.Input.{learned_input, keys_in_order}
 use Rattle.group_world.specs.Witness.{echoes, letter_program}
-use Rattle.group_world.proofs.SmallPrograms.{WritesLetter, echoes_first, first_byte, writes_letter}
+use Rattle.group_world.proofs.SmallPrograms.{echoes_first, first_byte, writes_letter}
 use Rattle.paxos_msg.specs.Keys.{Key}
 use Rattle.group_node.specs.Inputs.{AreChosen}
 use Rattle.group_world.specs.Order.{AreInOrder, serials_of}
@@ -125,37 +124,27 @@ module _ (p : Parts) where
       ▸ learns 3 (fresh p) refl 11 2 ballot_2 700 first_batch refl (get-empty nat_cmp 700) (3 ∷ 2 ∷ []) 10 (lit< tt) refl
       ▸ stop
 
-  abbrev second_ballot : Reaches (three_new p) takeover_acts
-  second_ballot = and_then (first_8 p 700) taken_over
-
 pub takeover : (p : Parts) → (w : WorldState) × LeadsInSteps (three_new p) takeover_acts w
     × IsSent w.sent 2 (Accepted (ballot_by 1 1) 700 first_batch) × IsChosenBy 3 w.sent (ballot_by 3 2) 700 first_batch
     × HasLearned w 3 700 first_batch
 takeover p =
-    let run = second_ballot p in
+    let run : Reaches (three_new p) takeover_acts = and_then (first_8 p 700) (taken_over p) in
     (_, run.leads, (5, lit< tt, refl), chosen_by run.end.sent (3 ∷ 2 ∷ []) 10 (lit< tt) refl, has_learned _ refl refl)
 
 -- ---- two nodes show the echo
 
--- the machine after ten steps
-abbrev ten : Configuration
-ten = after_steps echoes (learned_input (insert empty 0 first_batch)) 10
-
--- the nodes when their machines have run
-abbrev ran_1 : Up
-ran_1 = record (knows_1 echoes 0) { configuration = ten }
-
-abbrev ran_2 : Up
-ran_2 = record (knows_2 echoes 0) { configuration = ten }
+-- a node when its machine has made ten steps
+abbrev ran : Parts → Up → Up
+ran p u = record u { configuration = after_steps p (learned_input u.learned) 10 }
 
 -- node 1 has run and shown the byte, and then node 2
 abbrev both_show : StepLaw → Reaches (three_new echoes) (two_learn_acts ++ two_show_acts)
 both_show law =
     and_then (both_learn echoes 0) (
     runs 1 (knows_1 echoes 0) refl law echoes 10 refl refl (echoes_first 1 1).goes
-    ▸ releases 1 ran_1 refl 65 (first_byte (echoes_first 1 1))
+    ▸ releases 1 (ran echoes (knows_1 echoes 0)) refl 65 (first_byte (echoes_first 1 1))
     ▸ runs 2 (knows_2 echoes 0) refl law echoes 10 refl refl (echoes_first 1 1).goes
-    ▸ releases 2 ran_2 refl 65 (first_byte (echoes_first 1 1))
+    ▸ releases 2 (ran echoes (knows_2 echoes 0)) refl 65 (first_byte (echoes_first 1 1))
     ▸ stop
     )
 
@@ -182,15 +171,9 @@ module _ (p : Parts) where
   abbrev up_2 : Up
   up_2 = typing (fresh p) (key_2 ∷ [])
 
-  -- it has learned the first value, and the second
+  -- it has learned the first value
   abbrev knows_first : Up
   knows_first = knowing up_2 0 first_batch
-
-  abbrev knows_both : Up
-  knows_both = knowing knows_first 1 second_batch
-
-  none_at_1 : get knows_first.learned 1 ≡ None
-  none_at_1 = get_put empty 0 first_batch 1 ∙ get-empty nat_cmp 1
 
   abbrev starts_twice : Reaches (one_new p) two_starts_acts
   starts_twice =
@@ -213,23 +196,19 @@ module _ (p : Parts) where
       (promised (6, lit< tt, refl) (omega arith) (omega arith), tt) (1, (7, lit< tt, refl)))
       ▸ votes 1 up_2 refl 8 1 later_ballot 1 second_batch refl refl refl
       ▸ learns 1 up_2 refl 4 1 ballot_1 0 first_batch refl (get-empty nat_cmp 0) (1 ∷ []) 4 (lit< tt) refl
-      ▸ learns 1 knows_first refl 9 1 later_ballot 1 second_batch refl none_at_1 (1 ∷ []) 9 (lit< tt) refl
+      ▸ learns 1 knows_first refl 9 1 later_ballot 1 second_batch refl (get_put empty 0 first_batch 1 ∙ get-empty nat_cmp 1)
+      (1 ∷ []) 9 (lit< tt) refl
       ▸ stop
-
--- ---- the order of its keys
-
-in_order : AreInOrder (keys_in_order (first_batch ∷ second_batch ∷ []))
-in_order node start = (length (serials_of node start (keys_in_order (first_batch ∷ second_batch ∷ []))), grind (arith, nat_tests))
 
 pub two_starts : (p : Parts) → (w : WorldState) × LeadsInSteps (one_new p) two_starts_acts w
     × HasLearned w 1 0 first_batch × HasLearned w 1 1 second_batch
     × AreChosen w.size w.sent (first_batch ∷ second_batch ∷ [])
     × AreInOrder (keys_in_order (first_batch ∷ second_batch ∷ []))
 two_starts p = (
-  (starts_twice p).end,
+  _,
   (starts_twice p).leads,
   record {
-    node = knows_both p;
+    node = _;
     up = refl;
     learned = get_put (insert empty 0 first_batch) 1 second_batch 0 ∙ get_here empty 0 first_batch;
   },
@@ -238,28 +217,19 @@ two_starts p = (
     (ballot_1, chosen_by (starts_twice p).end.sent (1 ∷ []) 4 (lit< tt) refl),
     ((later_ballot, chosen_by (starts_twice p).end.sent (1 ∷ []) 9 (lit< tt) refl), tt),
   ),
-  in_order,
+  λ node start. (length (serials_of node start (keys_in_order (first_batch ∷ second_batch ∷ []))), grind (arith, nat_tests)),
 )
 
 -- ---- a node releases again
 
-abbrev letter_ten : Configuration
-letter_ten = after_steps letter_program (learned_input empty) 10
-
-abbrev letter_up : Up
-letter_up = record (fresh letter_program) { configuration = letter_ten }
-
-letter_writes : WritesLetter letter_program (learned_input empty)
-letter_writes = writes_letter (learned_input empty)
-
 abbrev restarts : StepLaw → Reaches (three_new letter_program) restart_acts
 restarts law =
     starts 1 refl
-    ▸ runs 1 (fresh letter_program) refl law letter_program 10 refl refl letter_writes.goes
-    ▸ releases 1 letter_up refl 65 (first_byte letter_writes)
+    ▸ runs 1 (fresh letter_program) refl law letter_program 10 refl refl (writes_letter _).goes
+    ▸ releases 1 (ran letter_program (fresh letter_program)) refl 65 (first_byte (writes_letter _))
     ▸ crashes 1
     ▸ starts 1 refl
-    ▸ runs 1 (fresh letter_program) refl law letter_program 10 refl refl letter_writes.goes
+    ▸ runs 1 (fresh letter_program) refl law letter_program 10 refl refl (writes_letter _).goes
     ▸ stop
 
 pub releases_again : StepLaw → (w v : WorldState) × LeadsInSteps (three_new letter_program) restart_acts w
@@ -267,5 +237,5 @@ pub releases_again : StepLaw → (w v : WorldState) × LeadsInSteps (three_new l
     × ((v.seats 1).console ≡ 65 ∷ [])
 releases_again law =
     let w = (restarts law).end in
-    let v = with_seat w 1 (after_release (w.seats 1) letter_up (Some 65)) in
-    (w, v, (restarts law).leads, released 1 letter_up refl 65 (first_byte letter_writes), refl, refl)
+    let v = with_seat w 1 (after_release (w.seats 1) (ran letter_program (fresh letter_program)) (Some 65)) in
+    (w, v, (restarts law).leads, released 1 (ran letter_program (fresh letter_program)) refl 65 (first_byte (writes_letter _)), refl, refl)

@@ -1,7 +1,7 @@
 -- Whatever events happen, a world stays sound and ordered. What it has sent and shown only grows,
 -- and what was learned stays.
 use Rattle.std.proofs.lemmas.Grind.{common_steps}
-use Rattle.std.proofs.Common.{◌≡◌, ℕ, ◌+◌, ◌<◌, Bool, List, [], ◌∷◌, ◌++◌, get_or, length, take, Option, Result, Ok, Err, IfOk, OnErr, refl, sym, subst, ap, ◌∙◌, None, Some, inl, inr, append-nil, append_assoc, arith}
+use Rattle.std.proofs.Common.{◌≡◌, ℕ, ◌+◌, ◌<◌, Bool, List, [], ◌∷◌, ◌++◌, get_or, length, take, Option, Result, IfOk, OnErr, refl, sym, subst, ap, ◌∙◌, None, Some, append-nil, append_assoc, arith}
 use Rattle.std.proofs.lemmas.List.{take_more}
 use Rattle.std.proofs.lemmas.Option.{slice_get-get_or}
 use Rattle.pcode_file.specs.Parts.{Parts}
@@ -9,7 +9,6 @@ use Rattle.paxos_msg.specs.declared.message.Group.{Group}
 use Rattle.paxos_msg.specs.Fits.{IsGroup}
 use Rattle.group_protocol.specs.States.{IsSize}
 use Rattle.group_world.specs.declared.event.Act.{Act}
-use Rattle.group_world.specs.declared.event.Act.TheVariants as act
 use Rattle.group_world.specs.declared.event.Done.{Done}
 use Rattle.group_world.specs.declared.event.Event.{Event}
 use Rattle.group_world.specs.declared.fault.WorldFault.{WorldFault}
@@ -32,7 +31,7 @@ use Rattle.paxos_msg.specs.Messages.{messages_of}
 use Rattle.group_node.specs.Deeds as deed
 use Rattle.group_node.specs.Deeds.{Deed}
 use Rattle.group_protocol.specs.Packets.{Datagram}
-use Rattle.group_node.specs.World.{CallOrFall, ChangesOnly, MakesCall, Seat, Up, WorldState, WorldStep, after_release}
+use Rattle.group_node.specs.World.{CallOrFall, ChangesOnly, MakesCall, Seat, WorldState, WorldStep}
 
 -- the laws of one event
 pub record EventLaws : Type 0 where
@@ -46,10 +45,7 @@ pub record EventLaws : Type 0 where
 -- the deed of an act hears what was sent
 pub heard_by : (group : Group) (sent : List Datagram) (act : Act) (deed : Deed) → IsDeedOf (messages_in group sent) act deed
     → HearsOf group sent deed
-heard_by group sent (act.Deliver k i) deed (m, at, e) =
-    subst (HearsOf group sent) (sym e) (in_from_place (messages_in group sent) k m at)
-heard_by group sent (act.Start i) deed (r, e) = subst (HearsOf group sent) (sym e) tt
-heard_by group sent _ deed e = subst (HearsOf group sent) (sym e) tt
+heard_by group sent act deed h = grind (arith, nat_tests, in_from_place)
 
 -- an event keeps what holds
 pub one_holds : EventLaws → {w v : World} (e : Event) (d : Done) → Holds w → Goes w e d v → Holds v
@@ -60,8 +56,7 @@ one_holds laws {w} {v} e d h goes =
 -- and so does one that happens, or else changes nothing
 pub event_holds : EventLaws → {w v : World} (e : Event) (answer : Result Done WorldFault) → Holds w
     → IfOk answer (λ d. Goes w e d v) → OnErr answer (v ≡ w) → Holds v
-event_holds laws e (Ok d) h goes same = one_holds laws e d h goes
-event_holds laws e (Err f) h goes same = subst Holds (sym same) h
+event_holds laws {w} {v} e answer h goes same = grind (arith, nat_tests, one_holds laws {w = w} {v = v} e)
 
 -- and so does a list of events
 pub happens_holds : EventLaws → (w : World) (events : List Event) (v : World) → Holds w
@@ -88,20 +83,13 @@ pub happens_next : (w : World) (events : List Event) (v : World) (i : ℕ) (defa
     → i < length events → LeadsBy w (take i events) v → Goes v (get_or events i default) d u
     → LeadsBy w (take (i + 1) events) u
 happens_next w events v i default d u less h goes =
-    subst (λ some. LeadsBy w some u) (sym (take_more events i default less))
-    (happens_then w _ (get_or events i default ∷ []) v u h (u, d, goes, refl))
+    grind (arith, take_more events i default less, happens_then w _ (get_or events i default ∷ []) v u h (u, d, goes, refl))
 
 -- the first event that is refused, after those that happened
 pub first_refused : (w : World) (events : List Event) (v : World) (i : ℕ) (default : Event)
     (f : WorldFault) → i < length events → LeadsBy w (take i events) v
     → IsRefused v (get_or events i default).act f → IsFirstRefused w events i f
-first_refused w events v i default f less h refused = record {
-  before = v;
-  happens = h;
-  event = get_or events i default;
-  there = slice_get-get_or events i default less;
-  refused = refused;
-}
+first_refused w events v i default f less h refused = grind (arith, slice_get-get_or events i default less)
 
 -- ---- what only grows
 
@@ -148,13 +136,7 @@ module _ (w v : WorldState) where
   call_grows i c keys h = grows_silent i h.bodies keys h.rest (ap (λ (s : Seat). s.console) h.left)
 
   call_or_fall_grows : (i : ℕ) (c : Option Change) → CallOrFall w v i c → Grows w v
-  call_or_fall_grows i None h = call_grows i None [] h
-  call_or_fall_grows i (Some c) (inl h) = call_grows i (Some c) [] h
-  call_or_fall_grows i (Some c) (inr h) = grows_silent i [] [] h.1.rest h.1.console
-
-  -- a byte is offered to its console
-  release_begins : (seat : Seat) (was : Up) (o : Option ℕ) → IsPrefix seat.console (after_release seat was o).console
-  release_begins seat was o = grind (arith, nat_tests, append-nil)
+  call_or_fall_grows i c h = grind (arith, nat_tests, call_grows i, grows_silent i [] [])
 
   -- each deed in a group
   step_grows : (i : ℕ) (e : Deed) → WorldStep w i e v → Grows w v
@@ -163,12 +145,11 @@ module _ (w v : WorldState) where
   step_grows i (deed.Hear message) h = call_or_fall_grows i h.saved h.call
   step_grows i deed.Campaign h = call_or_fall_grows i (Some (change.Promise (record { round = h.round; node = i }))) h.call
   step_grows i deed.Tick h = call_grows i None [] h
-  step_grows i (deed.Run steps) h = grows_silent i [] [] h.rest (ap (λ (s : Seat). s.console) h.left)
+  step_grows i (deed.Run steps) h = grows_silent i [] [] h.rest (cc)
   step_grows i deed.Release h =
-      grows_at i [] [] h.rest (rw h.left (release_begins (w.seats i) h.was _))
-  step_grows i deed.Crash h = grows_silent i [] [] h.rest (ap (λ (s : Seat). s.console) h.left)
-  step_grows i (deed.Start r) (down, over, inl h) = grows_silent i [] [] h.rest (ap (λ (s : Seat). s.console) h.left)
-  step_grows i (deed.Start r) (down, over, inr h) = grows_silent i [] [] h.rest h.console
+      grows_at i [] [] h.rest (grind (arith, nat_tests, append-nil))
+  step_grows i deed.Crash h = grows_silent i [] [] h.rest (cc)
+  step_grows i (deed.Start r) h = grind (arith, nat_tests, grows_silent i [] [])
 
   -- and each one that a node answers
   answered_grows : (i : ℕ) (e : Deed) (d : Done) → IsStepAt w i e d v → Grows w v
@@ -195,17 +176,17 @@ pub record LaterWorldLaws : Type 0 where
 pub answer_grows : (w v : World) (act : Act) (answer : Result Done WorldFault)
     → IfOk answer (λ d. IsStep (world_state w) act d (world_state v)) → OnErr answer (v ≡ w)
     → Grows (world_state w) (world_state v)
-answer_grows w v act (Ok d) (deed, of_act, step) same = answered_grows _ _ _ deed d step
-answer_grows w v act (Err e) step same = grows_none _ _ (ap world_state same)
+answer_grows w v act answer step same =
+    grind (arith, nat_tests, answered_grows (world_state w) (world_state v), grows_none (world_state w) (world_state v))
 
 -- what is chosen at the first moment is chosen at the second, and so is the same
 pub grown_learned : ChosenLaws → (w v : World) → IsSound w → IsSound v
     → Grows (world_state w) (world_state v) → LearnedStays (world_state w) (world_state v)
 grown_learned laws w v first second grown i j s a b has other =
     let chosen : IsChosen w.group.size (world_state w).sent s a = (laws.learned w first i s a has).0 in
-    let still = subst (λ sent. IsChosen w.group.size sent s a) (sym grown.sent) (laws.stays w.group.size s _ grown.more a chosen) in
-    let same = subst (λ n. IsChosen n (world_state v).sent s a) (sym grown.size) still in
-    laws.one v.group.size s _ (λ k. ((world_state v).seats k).kept) a b second.grew same (laws.learned v second j s b other).0
+    let still = subst (λ n. IsChosen n (world_state v).sent s a) (sym grown.size)
+    (rw grown.sent (laws.stays w.group.size s _ grown.more a chosen)) in
+    laws.one v.group.size s _ (λ k. ((world_state v).seats k).kept) a b second.grew still (laws.learned v second j s b other).0
 
 module _ (laws : LaterWorldLaws) where
   happens_grows : (w : World) (events : List Event) (v : World) → Holds w → LeadsBy w events v

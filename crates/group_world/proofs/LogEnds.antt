@@ -1,19 +1,17 @@
 -- A log leaves one list of nodes: each entry leaves one node of the node before it.
-use Rattle.std.proofs.lemmas.Option.{same_Some}
-use Rattle.std.proofs.Common.{◌≡◌, ◌∙◌, Bool, Option, ℕ, zero, suc, ◌<◌, ◌≤◌, List, [], ◌∷◌, length, inl, inr, sym, ap, subst, arith}
+use Rattle.std.proofs.Common.{◌≡◌, ◌∙◌, Bool, Option, ℕ, zero, suc, ◌<◌, List, [], ◌∷◌, inl, inr, sym, ap, subst, arith}
 use Rattle.std.proofs.lemmas.Bool.{cases_eq}
+use Rattle.std.proofs.lemmas.Bool.Decides.{nat_tests}
 use Rattle.pcode_file.specs.Parts.{Parts}
 use Rattle.pcode_machine.specs.Configuration.{Configuration}
 use Rattle.pcode_machine.specs.Transition.{Goes, transition}
 use Rattle.pcode_machine.specs.Runs.{LeadsIn, after_steps}
 use Rattle.paxos_acceptor.specs.declared.me.Me.{Me}
-use Rattle.group_node.specs.declared.limits.TheConstants.{RING_BYTES}
 use Rattle.group_node.specs.declared.player.Ran.{Ran}
-use Rattle.group_node.specs.Deeds.{Campaign, Crash, Deed, Hear, Idle, Press, Release, Run, Start, Tick}
-use Rattle.group_node.specs.Output.{IsOver, IsReplay, Progress, RunsOn, most_of, unreleased_of}
-use Rattle.group_node.specs.States.{input}
+use Rattle.group_node.specs.Deeds.{Deed}
+use Rattle.group_node.specs.Output.{IsReplay, Progress, RunsOn}
 use Rattle.group_world.specs.Group.{World, me_of}
-use Rattle.group_world.specs.Member.{Member, Running, RunsMember, at_progress}
+use Rattle.group_world.specs.Member.{Member}
 use Rattle.group_world.specs.Deeds.{DoesDeed, Left}
 use Rattle.group_world.specs.Event.{plan_of}
 use Rattle.group_world.specs.Processes.{Entry, IsHistory, IsLog, entries_of, left_by}
@@ -33,54 +31,23 @@ steps_on after p x n (suc k) c h less = elim (cases_eq n k) [
   | inr ne ↦ steps_on after p x n k h.0 h.1 (omega (arith, less, ne))
 ]
 
--- no run comes further than it may
-within_most : (x : List ℕ) (most : ℕ) (q : Progress) (answer : Ran) → IsOver x most q answer → q.steps ≤ most
-within_most x most q answer h = grind arith
-
--- a run that is over makes no more steps
-none_after : (x : List ℕ) (most : ℕ) (a : Progress) (answer : Ran) (s : ℕ) → IsOver x most a answer → a.steps < s → s ≤ most
-    → length (unreleased_of x a) < RING_BYTES
-    → (d : Configuration) × (transition a.program x (after_steps a.program x a.steps) ≡ Goes d) → ⊥
-none_after x most a answer s h less few room (d, goes) = grind arith
-
 module _ (after : After) where
   -- no run ends before another one
   no_less : (x : List ℕ) (steps : ℕ) (old a b : Progress) (ra rb : Ran) → RunsOn x steps old a ra → RunsOn x steps old b rb
       → IsReplay x b → a.steps < b.steps → ⊥
   no_less x steps old a b ra rb first second replay less =
-      let program : b.program ≡ a.program = cc (first.rest, second.rest) in
-      let more = steps_on after b.program x a.steps b.steps _ replay.made less in
-      let more_so = subst (λ (p : Parts). (d : Configuration) × (transition p x (after_steps p x a.steps) ≡ Goes d)) program more in
-      let room = second.room a.steps first.more less in
-      let room_so = subst (λ (q : Progress). length (unreleased_of x q) < RING_BYTES) (sym first.rest) room in
-      none_after x (most_of old.steps steps) a ra b.steps first.over less (within_most x _ b rb second.over) room_so more_so
+      grind (arith, steps_on after b.program x a.steps b.steps _ replay.made less)
 
   -- two runs are one
   runs_alike : (x : List ℕ) (steps : ℕ) (old a b : Progress) (ra rb : Ran) → RunsOn x steps old a ra → RunsOn x steps old b rb
       → IsReplay x a → IsReplay x b → b ≡ a
   runs_alike x steps old a b ra rb first second replay_a replay_b =
-      let not_less : a.steps < b.steps → ⊥ = no_less x steps old a b ra rb first second replay_b in
-      let not_more : b.steps < a.steps → ⊥ = no_less x steps old b a rb ra second first replay_a in
-      let same : b.steps ≡ a.steps = grind (arith, not_less, not_more) in
-      second.rest ∙ ap (λ (n : ℕ). record old { steps = n }) same ∙ sym first.rest
+      grind (arith, no_less x steps old a b ra rb first second replay_b, no_less x steps old b a rb ra second first replay_a)
 
   -- a deed leaves one node
   deed_alike : (p : Parts) (me : Me) (m : Member) (plan : Option Bool) (deed : Deed) (a b : Left) → DoesDeed p me m plan deed a
       → DoesDeed p me m plan deed b → b.member ≡ a.member
-  deed_alike p me m plan Idle a b first second = ap (λ (x : Left). x.member) (second ∙ sym first)
-  deed_alike p me m plan (Start r) a b (down, read, ends) (_, _, others) = others.left ∙ sym ends.left
-  deed_alike p me m plan (Hear x) a b (q, up, ends) (r, other, others) = cc
-  deed_alike p me m plan (Press byte) a b (q, up, low, ends) (r, other, _, others) = cc
-  deed_alike p me m plan Campaign a b (q, up, ends) (r, other, others) = cc
-  deed_alike p me m plan Tick a b (q, up, ends) (r, other, others) = cc
-  deed_alike p me m plan (Run steps) a b (q, up, runs, silent) (r, other, again, _) =
-      let same : r ≡ q = same_Some r q (sym other ∙ up) in
-      let again_so : RunsMember m q steps b.member = subst (λ (y : Running). RunsMember m y steps b.member) same again in
-      let one = runs_alike (input q.known) steps q.progress runs.progress again_so.progress runs.ran again_so.ran
-      runs.runs again_so.runs runs.replay again_so.replay in
-      again_so.new_is ∙ ap (at_progress m q) one ∙ sym runs.new_is
-  deed_alike p me m plan Release a b (q, up, is) (r, other, again) = cc
-  deed_alike p me m plan Crash a b (q, up, is) (r, other, again) = cc
+  deed_alike p me m plan deed a b first second = grind (arith, nat_tests, runs_alike)
 
   -- and so do several
   pub history_alike : (p : Parts) (me : Me) (m : Member) (es : List Entry) (a b : Member) → IsHistory p me m es a

@@ -1,7 +1,8 @@
 -- The keys of chosen values, each once, are in order if each value was due; and in an ordered world
 -- each was.
-use Rattle.std.proofs.Common.{◌≡◌, ◌∙◌, ℕ, ◌+◌, ◌<◌, ◌≤◌, Bool, true, false, List, [], ◌∷◌, ◌++◌, length, map, Some, if◌then◌else◌, refl, sym, ap, subst, inl, inr, append_assoc, arith, IsTrue, ◌↔◌}
+use Rattle.std.proofs.Common.{◌≡◌, ◌∙◌, ℕ, ◌+◌, ◌<◌, ◌≤◌, Bool, true, false, List, [], ◌∷◌, ◌++◌, length, if◌then◌else◌, refl, sym, ap, subst, inl, inr, append_assoc, arith, IsTrue, ◌↔◌}
 use Rattle.std.proofs.lemmas.Bool.{cases_lt, both_ways}
+use Rattle.std.proofs.lemmas.Bool.Decides.{nat_tests}
 use Rattle.std.proofs.lemmas.List.{append-nil}
 use Rattle.std.proofs.lemmas.List.Elements.{Contains-append_left, Contains-append_right, Contains-get_or, Contains-push}
 use Rattle.std.proofs.lemmas.List.Quantifiers.{all_pairs_push}
@@ -13,7 +14,6 @@ use Rattle.indexmap.specs.IndexSet.{insert_key}
 use Rattle.paxos_learner.specs.Input.{same_key, has_key, firsts, keys_in_order}
 use Rattle.paxos_msg.specs.declared.value.Value.{Value}
 use Rattle.paxos_msg.specs.declared.value.Value.TheVariants.{Keys}
-use Rattle.paxos_msg.specs.Batches.{IsFree}
 use Rattle.paxos_msg.specs.Chosen.{IsChosen}
 use Rattle.group_node.specs.Inputs.{AreChosen}
 use Rattle.group_world.specs.Group.{World, world_state}
@@ -21,9 +21,9 @@ use Rattle.group_world.specs.Order.{HaveOneName, AreApart, AreInOrder, is_of, se
 use Rattle.group_world.specs.Ordered.{HasSerial, IsDue, IsOrdered}
 use Rattle.group_world.specs.Sound.{IsSound}
 use Rattle.group_world.proofs.OrderLists.{here_place, of_filter, left_place, in_filter, place_of, in_from_place, in_flat_map, of_flat_map, in_range, of_range}
-use Rattle.group_world.proofs.SoundWorldsAgree.{ChoiceLaws}
-use Rattle.group_world.proofs.OrderRows.{apart_same, of_test, other_more, row_more, serial_in, serial_of, has_in}
-use Rattle.group_protocol.proofs.Elements.{first_in, in_cases, none_in, rest_in}
+use Rattle.group_world.proofs.SoundWorldsAgree.{ChoiceLaws, typed_of}
+use Rattle.group_world.proofs.OrderRows.{own_serial, apart_same, of_test, other_more, row_more, serial_in, serial_of, has_in}
+use Rattle.group_protocol.proofs.Elements.{first_in, in_cases, rest_in}
 
 -- all keys of these values, in order
 abbrev all_keys : List Value → List Key
@@ -88,9 +88,7 @@ module _ (keys : List Key) (k : Key) (h : AreOrderly keys) (follows : Follows ke
         let (n, row) = h.order node start in
         let (e, f) = of_test node start k own in
         (n + 1, row_more node start n keys k own (next_serial n (rw (e, f) row)) row)
-    by false other =
-        let (n, row) = h.order node start in
-        (n, ap (map (λ (x : Key). x.serial)) (other_more node start keys k other) ∙ row)
+    by false other = let (n, row) = h.order node start in (n, rw (other_more node start keys k other) row)
 
   -- and no key is there twice
   next_orderly : AreOrderly (keys ++ k ∷ [])
@@ -107,14 +105,8 @@ module _ (laws : OrderLaws) where
   -- each key is among the firsts
   in_firsts : (keys : List Key) (k : Key) → Contains keys k → Contains (firsts keys) k
   in_firsts [] k h = h
-  in_firsts (x ∷ keys) k h = elim (in_cases x keys k h) [
-    | inl e ↦ subst (Contains (firsts (x ∷ keys))) e (first_in x _)
-    | inr later ↦ by (same_key x k) refl (in_firsts keys k later)
-  ]
-    where
-      by : (same : Bool) → same_key x k ≡ same → Contains (firsts keys) k → Contains (firsts (x ∷ keys)) k
-      by true e later = subst (Contains (firsts (x ∷ keys))) ((laws.same x k).0 e) (first_in x _)
-      by false e later = rest_in x _ k (in_filter _ (firsts keys) k later (rw e refl))
+  in_firsts (x ∷ keys) k h =
+      let later = in_firsts keys k in grind (arith, nat_tests, in_cases, first_in, rest_in, in_filter, laws.same x k, later)
 
   module _ {w : World} (sound : IsSound w) (ordered : IsOrdered w) where
     abbrev typed : List Key
@@ -135,10 +127,9 @@ module _ (laws : OrderLaws) where
 
     -- a chosen value has typed keys, and is due
     chosen_is : (s : ℕ) (v : Value) → IsPick s v → AreTyped (keys_of v) × IsDue w.group.size (world_state w).sent v
-    chosen_is s v chosen = by (laws.choice.free w.group.size s _ _ v sound.grew chosen) where
-      by : IsFree (world_state w).sent v → AreTyped (keys_of v) × IsDue w.group.size (world_state w).sent v
-      by (inl noop) = rw noop ((λ k among. absurd (none_in k among)), tt)
-      by (inr said) = ((sound.submitted said.0 v said.1).known, ordered.due v said)
+    chosen_is s v chosen =
+        let free = laws.choice.free w.group.size s _ _ v sound.grew chosen in
+        (typed_of laws.choice w sound v free, grind (arith, nat_tests, ordered.due v))
 
     -- all keys of chosen values were typed
     front_typed : (values : List Value) → IsFront values → AreTyped (all_keys values)
@@ -159,16 +150,15 @@ module _ (laws : OrderLaws) where
         let (s, at) = place_of below v among in
         let there = slice_get-get_or values s v (omega (arith, slice_get_within below s v at)) in
         let same = one_value s _ v (front.chosen s _ there) (low.chosen s v at) in
-        in_flat_map keys_of values v k (in_from_place values s v (there ∙ ap (λ u. Some u) same)) here
+        in_flat_map keys_of values v k (in_from_place values s v (rw same at there)) here
 
     -- a front that has more places than these has the value of the next one
     longer_has : (below values more : List Value) (v : Value) → IsFront below → IsFront (values ++ v ∷ more)
         → length values < length below → Contains below v
     longer_has below values more v low front less =
-        let s = length values in
-        let there = slice_get-get_or below s v less in
-        let same = one_value s _ v (low.chosen s _ there) (front.chosen s v (here_place values v more)) in
-        in_from_place below s v (there ∙ ap (λ u. Some u) same)
+        let there = slice_get-get_or below (length values) v less in
+        let same = one_value _ _ v (low.chosen _ _ there) (front.chosen _ v (here_place values v more)) in
+        in_from_place below (length values) v (rw same at there)
 
     -- the first of chosen values are chosen
     front_left : (values more : List Value) → IsFront (values ++ more) → IsFront values
@@ -201,10 +191,9 @@ module _ (laws : OrderLaws) where
         let more = keys_from node start (serial + 1) bytes in
         let next = push_orderly keys k _ refl h follows (λ x here. was x (Contains-append_left keys _ x here))
         (was k (Contains-append_right keys _ k (first_in k more))) in
-        let last : HasSerial (keys ++ k ∷ []) node start serial =
-        record { key = k; among = Contains-push keys k; node_is = refl; start_is = refl; serial_is = refl } in
         subst (λ l. AreOrderly (firsts l)) (append_assoc keys (k ∷ []) more)
-        (batch_orderly (keys ++ k ∷ []) node start (serial + 1) bytes (rw (laws.more keys k) next) (goes_on serial refl last)
+        (batch_orderly (keys ++ k ∷ []) node start (serial + 1) bytes (rw (laws.more keys k) next)
+        (goes_on serial refl (own_serial k (Contains-push keys k)))
         (subst AreTyped (sym (append_assoc keys (k ∷ []) more)) was))
 
     -- ---- the chosen values
@@ -218,15 +207,8 @@ module _ (laws : OrderLaws) where
         let v = Keys node start first _ in
         let k : Key = record { node = node; start = start; serial = first; byte = byte } in
         elim (cases_lt (length values) (length p.below)) [
-          | inl less ↦ absurd (p.lacks (record {
-            key = k;
-            among =
-                in_firsts _ k
-                (in_flat_map keys_of p.below v k (longer_has p.below values more v p.chosen front less) (first_in k _));
-            node_is = refl;
-            start_is = refl;
-            serial_is = refl;
-          }))
+          | inl less ↦ absurd (p.lacks (own_serial k (in_firsts _ k
+              (in_flat_map keys_of p.below v k (longer_has p.below values more v p.chosen front less) (first_in k _)))))
           | inr within ↦ goes_on p.before p.next (has_in
               (λ x here. shorter_in p.below values p.chosen (front_left values (v ∷ more) front) within x (of_firsts _ x here)) p.has)
         ]

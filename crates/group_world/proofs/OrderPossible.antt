@@ -3,8 +3,7 @@
 -- sound and ordered, for the law `possible`.
 use Rattle.std.proofs.lemmas.Bool.Decides.{nat_tests}
 use Rattle.std.specs.List.{AllByRecursion as EachOf, list_any, Contains, flat_map}
-use Rattle.std.proofs.lemmas.Option.{same_Some}
-use Rattle.std.proofs.Common.{false, ◌≡◌, ◌≢◌, ◌<◌, ℕ, zero, suc, List, [], ◌∷◌, ◌++◌, map, Some, IfSome, refl, sym, subst, inl, inr, arith, lit<, All, None}
+use Rattle.std.proofs.Common.{false, ◌≡◌, ◌≢◌, ◌<◌, ℕ, zero, suc, List, [], ◌∷◌, ◌++◌, map, Some, IfSome, refl, inl, inr, arith, lit<, All, None}
 use Rattle.std.proofs.lemmas.List.Elements.{All-from_recursion, Contains-push}
 use Rattle.pcode_file.specs.Parts.{Parts}
 use Rattle.paxos_msg.specs.declared.message.Body.TheVariants.{Accept, Prepare, Submit, Tell, Accepted, Promise}
@@ -13,20 +12,17 @@ use Rattle.paxos_msg.specs.declared.value.Value.TheVariants.{Keys}
 use Rattle.paxos_msg.specs.Batches.{Body, Grew, IsTyped, Msg, IsSafe, Record, Sent, Change, MaySend}
 use Rattle.paxos_msg.specs.Keys.{Key, keys_of}
 use Rattle.paxos_msg.specs.Bodies.{IsBody}
-use Rattle.paxos_msg.specs.Messages.{IsSaid, IsSent, kept_vote_at}
+use Rattle.paxos_msg.specs.Messages.{IsSent, kept_vote_at}
 use Rattle.paxos_acceptor.specs.Records.{IsVoteBacked}
 use Rattle.paxos_learner.specs.Input.{input_of}
-use Rattle.group_protocol.specs.Backs.{HasPromised, IsRecordBacked}
 use Rattle.group_node.specs.Inputs.{AreChosen}
 use Rattle.group_protocol.specs.Packets.{datagrams_of, Packet, to_all}
-use Rattle.group_protocol.specs.Steps.{AllChosen, AllTyped, messages_handed_out}
-use Rattle.group_world.specs.Order.{AreApart}
+use Rattle.group_protocol.specs.Steps.{messages_handed_out}
 use Rattle.group_world.specs.Ordered.{IsDue, IsOrdered, IsRowOf}
 use Rattle.group_world.specs.Sound.{IsMemberSound, IsSound, IsSpelling}
 use Rattle.group_world.specs.Group.{me_of, member_at, World, world_state, seat_of_member, messages_in}
 use Rattle.group_world.specs.Member.{Member}
-use Rattle.group_protocol.specs.Ranges.{AllFit}
-use Rattle.group_world.proofs.WorldAsGroup.{nothing_shown, packets_read, ReadLaw, stopped}
+use Rattle.group_world.proofs.WorldAsGroup.{packets_read, ReadLaw, stopped}
 use Rattle.paxos_msg.specs.declared.ballot.Ballot.{Ballot}
 use Rattle.paxos_msg.specs.declared.record.Change.TheVariants as change
 use Rattle.paxos_msg.specs.Chosen.{IsChosen}
@@ -55,7 +51,7 @@ batch_ab = Keys 1 1 1 (65 ∷ 66 ∷ [])
 abbrev batch_c : Value
 batch_c = Keys 1 1 3 (67 ∷ [])
 
-abbrev pub ballot : Ballot
+abbrev ballot : Ballot
 ballot = record { round = 1; node = 1 }
 
 -- the messages of the node about a batch at a place
@@ -72,14 +68,10 @@ abbrev records_of : Record → ℕ → Record
 records_of r i = (seat_of_member (member_at (stopped r ∷ []) i)).kept
 
 records_empty : (i : ℕ) → records_of empty_record i ≡ empty_record
-records_empty zero = refl
-records_empty (suc zero) = refl
-records_empty (suc (suc i)) = refl
+records_empty n = grind (arith, nat_tests)
 
 other_records : (r s : Record) (j : ℕ) → j ≢ 1 → records_of r j ≡ records_of s j
-other_records r s zero ne = refl
-other_records r s (suc zero) ne = absurd (ne refl)
-other_records r s (suc (suc j)) ne = refl
+other_records r s n ne = grind (arith, nat_tests)
 
 -- what this node has sent, and its record
 record Grown : Type 0 where
@@ -165,9 +157,6 @@ group = record { size = 1; session = 0 }
 abbrev pub me : Me
 me = record { node = 1; group = group }
 
-all_fit : AllFit me packets
-all_fit = All-from_recursion (λ packet. IsBody 1 1 packet.body) packets (grind (arith, own_keys))
-
 -- ---- what each message says
 
 -- the third batch is due after the first two
@@ -195,9 +184,6 @@ all_say = (tt, ((typed_a, inl refl), (refl, (tt, ((typed_ab, inl refl), (refl, (
 says : (i : ℕ) (body : Body) → Contains sent_3 (record { sender = i; body = body }) → Says i body
 says i body among = each_of (λ (m : Msg). Says m.sender m.body) sent_3 _ all_say among
 
-told : AllChosen 1 sent_3
-told s v said = absurd (says said.0 (Tell s v) said.1)
-
 -- ---- the record
 
 -- the vote that is found at a place, if there is one, was proposed
@@ -206,16 +192,6 @@ vote_backed zero = record { proposed = (1, (2, lit< tt, refl)); in_promise = inr
 vote_backed (suc zero) = record { proposed = (1, (5, lit< tt, refl)); in_promise = inr (refl, omega arith) }
 vote_backed (suc (suc zero)) = record { proposed = (1, (8, lit< tt, refl)); in_promise = inr (refl, omega arith) }
 vote_backed (suc (suc (suc s))) = grind (arith, nat_tests)
-
-kept_backed : IsRecordBacked sent_3 1 kept_3
-kept_backed = record {
-  votes = record {
-    votes = vote_backed;
-    in_order = ((omega arith, (omega arith, tt)), ((omega arith, tt), (tt, tt)));
-  };
-  asked = λ b from mine said. subst (HasPromised kept_3) (sym (says said.0 (Prepare b from) said.1)) (inr (refl, omega arith));
-  own = λ b s v mine said. subst (HasPromised kept_3) (sym (says said.0 (Accept b s v) said.1)) (inr (refl, omega arith));
-}
 
 -- ---- the world
 
@@ -230,34 +206,23 @@ example p = record {
 
 -- the node is sound
 node_sound : (p : Parts) → IsMemberSound p me sent_3 typed (stopped kept_3)
-node_sound p = record {
-  ranges = record {
-    starts = omega arith;
-    kept = grind arith;
-  };
-  backed = kept_backed;
-  shown = nothing_shown p _ _;
-  running = tt;
-}
+node_sound p =
+    grind (arith, vote_backed)
 
 -- what holds of the node holds of each
 each_member : (P : ℕ → Member → Type 0) → P 1 (stopped kept_3) → (i : ℕ) (m : Member)
     → member_at (stopped kept_3 ∷ []) i ≡ Some m → P i m
-each_member P h zero m e = absurd cc
-each_member P h (suc zero) m e = subst (P 1) (same_Some _ m e) h
-each_member P h (suc (suc i)) m e = absurd cc
+each_member x h n m e = grind (arith, nat_tests)
 
 -- ---- it is ordered
-
-typed_apart : AreApart typed
-typed_apart i j d less below name = grind (arith, name.serial)
 
 -- ---- with the law that a spelling is read
 
 module _ (read : ReadLaw) where
   all_read : All (IsSpelling group) (datagrams_of me packets)
       × (messages_in group (datagrams_of me packets) ≡ messages_handed_out 1 packets)
-  all_read = packets_read read me (omega arith) (omega arith) packets all_fit
+  all_read = packets_read read me (omega arith) (omega arith) packets
+      (All-from_recursion (λ packet. IsBody 1 1 packet.body) packets (grind (arith, own_keys)))
 
   sent_is : messages_in group (datagrams_of me packets) ≡ sent_3
   sent_is = all_read.1
@@ -268,17 +233,16 @@ module _ (read : ReadLaw) where
     session = omega arith;
     places = refl;
     spelled = all_read.0;
-    grew = subst (λ sent. Grew 1 sent (records_of kept_3)) (sym sent_is) grown.grew;
-    told = subst (AllChosen 1) (sym sent_is) told;
-    submitted = subst (λ sent. AllTyped sent typed) (sym sent_is) (λ i v among. (says i _ among).0);
-    members = λ i m e. subst (λ sent. IsMemberSound p (me_of (example p) i) sent typed m) (sym sent_is)
-        (each_member (λ i m. IsMemberSound p (me_of (example p) i) sent_3 typed m) (node_sound p) i m e);
+    grew = rw sent_is grown.grew;
+    told = rw sent_is (λ s v said. absurd (says said.0 (Tell s v) said.1));
+    submitted = rw sent_is (λ i v among. (says i _ among).0);
+    members = rw sent_is (each_member (λ i m. IsMemberSound p (me_of (example p) i) sent_3 typed m) (node_sound p));
   }
 
   example_ordered : (p : Parts) → IsOrdered (example p)
   example_ordered p = record {
     keys = record {
-      once = typed_apart;
+      once = λ i j d less below name. grind (arith, name.serial);
       past = λ k m among at. omega (
         arith,
         each_of (λ (x : Key). x.start ≡ 1) typed k (refl, (refl, (refl, tt))) among,
@@ -286,8 +250,7 @@ module _ (read : ReadLaw) where
       );
       nodes = each_member (λ i m. IfSome m.node (λ q. IsRowOf typed i m.kept q.known)) tt;
     };
-    due = subst (λ sent. (v : Value) → IsSaid sent (Submit v) → IsDue 1 sent v) (sym sent_is)
-        (λ v said. (says said.0 _ said.1).1);
+    due = rw sent_is (λ v said. (says said.0 _ said.1).1);
   }
 
   pub possible : (p : Parts)
@@ -300,7 +263,7 @@ module _ (read : ReadLaw) where
     refl,
     example_sound p,
     example_ordered p,
-    subst (λ sent. AreChosen 1 sent chosen_values) (sym sent_is) (are_chosen chosen_values chosen_at),
+    rw sent_is (are_chosen chosen_values chosen_at),
     refl,
     refl,
   )

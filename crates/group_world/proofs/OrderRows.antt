@@ -2,7 +2,6 @@
 -- What follows for the keys that wait, and how the row goes on.
 use Rattle.std.proofs.Common.{◌≡◌, ◌∙◌, ℕ, true, false, List, [], ◌∷◌, ◌++◌, map, get_or, inl, inr, refl, sym, ap, subst, zero, suc, ◌+◌, length, ◌⊎◌, append_assoc, arith, ◌<◌, length-append}
 use Rattle.std.proofs.lemmas.Bool.Decides.{nat_tests}
-use Rattle.std.proofs.lemmas.Bool.{cases_order}
 use Rattle.std.proofs.lemmas.List.{append-nil, get_or_default, map-append, length-map, get_or-map, get_or_at, get_or_append_left}
 use Rattle.std.proofs.lemmas.List.Elements.{filter-append, Contains-append_left, Contains-append_right, All-append, All-contains, All-nil, All-weaker, Contains-get_or}
 use Rattle.std.specs.List.{Contains, All, range_with_len}
@@ -31,6 +30,10 @@ not_of node start k ne = grind (arith, nat_tests, ne)
 
 -- ---- serials as elements
 
+-- the serial of one of the keys
+pub own_serial : {keys : List Key} (k : Key) → Contains keys k → HasSerial keys k.node k.start k.serial
+own_serial k among = record { key = k; among = among; node_is = refl; start_is = refl; serial_is = refl }
+
 pub serial_in : (keys : List Key) (node start serial : ℕ) → HasSerial keys node start serial → Contains (serials_of node start keys) serial
 serial_in keys node start serial h =
     rw h.serial_is at (in_map (λ (k : Key). k.serial) _ h.key
@@ -38,10 +41,10 @@ serial_in keys node start serial h =
 
 pub serial_of : (keys : List Key) (node start serial : ℕ) → Contains (serials_of node start keys) serial → HasSerial keys node start serial
 serial_of keys node start serial h =
-    let found = of_map (λ (k : Key). k.serial) _ serial h in
-    let kept = of_filter _ keys found.0 found.1 in
-    let same = of_test node start found.0 kept.1 in
-    record { key = found.0; among = kept.0; node_is = same.0; start_is = same.1; serial_is = found.2 }
+    let (key, kept, is) = of_map (λ (k : Key). k.serial) _ serial h in
+    let (among, own) = of_filter _ keys key kept in
+    let (e, f) = of_test node start key own in
+    record { key = key; among = among; node_is = e; start_is = f; serial_is = is }
 
 -- ---- among more keys
 
@@ -75,14 +78,7 @@ row_more node start last keys k own next row =
 -- of keys that are apart, two with one name are the same
 pub apart_same : (keys : List Key) (k other : Key) → AreApart keys → Contains keys k → Contains keys other → HaveOneName k other → k ≡ other
 apart_same keys k other apart (i, below, at) (j, within, is) name =
-    let there = get_or_default keys j k other within ∙ is in
-    let named : HaveOneName (get_or keys i k) (get_or keys j k) = rw (at, there) name in
-    elim (cases_order i j) [
-      | inl e ↦ sym at ∙ ap (λ n. get_or keys n k) e ∙ there
-      | inr (inl less) ↦ absurd (apart i j k less within named)
-      | inr (inr more) ↦ absurd (apart j i k more below
-          (record { node = sym named.node; start = sym named.start; serial = sym named.serial }))
-    ]
+    grind (arith, get_or_default keys j k other within)
 
 -- ---- the row of typed keys
 
@@ -94,15 +90,11 @@ pub record IsParted (read keys stay : List Key) : Type 0 where
   pub below : All (λ k. Contains read k) gone
   pub first : IsFirstUnread read stay
 
--- the first of the waiting keys with one more
-first_more : (read keys : List Key) (k : Key) → IsFirstUnread read keys → (Contains read k → ⊥) → IsFirstUnread read (keys ++ k ∷ [])
-first_more read keys k first out = grind (arith, nat_tests)
-
 -- the row of a start in which no key was typed
 pub fresh_row : (typed : List Key) (i start : ℕ) (read : List Key)
     → ((k : Key) → Contains typed k → k.node ≡ i → k.start ≡ start → ⊥) → AreTypedKeys typed i start 0 [] read
 fresh_row typed i start read none =
-    let none_yet = filter_none _ typed (λ k among. not_of i start k (λ e f. none k among e f)) in
+    let none_yet = filter_none _ typed (λ k among. not_of i start k (none k among)) in
     record { serials = ap (map (λ (k : Key). k.serial)) none_yet; gone = []; newest = none_yet; below = All-nil _; first = tt }
 
 module _ {typed : List Key} {i start last : ℕ} {waiting read : List Key} (h : AreTypedKeys typed i start last waiting read) where
@@ -121,12 +113,8 @@ module _ {typed : List Key} {i start last : ℕ} {waiting read : List Key} (h : 
 
   own_key : (k : Key) → Contains (h.gone ++ waiting) k → IsOwn k
   own_key k among =
-      let kept = of_filter _ typed k (subst (λ l. Contains l k) (sym h.newest) among) in
-      let is = of_test i start k kept.1 in
-      (kept.0, is.0, is.1)
-
-  waiting_key : (k : Key) → Contains waiting k → IsOwn k
-  waiting_key k among = own_key k (Contains-append_right h.gone waiting k among)
+      let (here, own) = of_filter _ typed k (subst (λ l. Contains l k) (sym h.newest) among) in
+      let (e, f) = of_test i start k own in (here, e, f)
 
   -- the first that waits has the serial after those that do not
   first_serial : (key : Key) (keys : List Key) → waiting ≡ key ∷ keys → key.serial ≡ 1 + length h.gone
@@ -142,26 +130,17 @@ module _ {typed : List Key} {i start last : ℕ} {waiting read : List Key} (h : 
       let among : Contains h.gone key = Contains-get_or h.gone n _ low in
       let is = own_key key (Contains-append_left h.gone waiting key among) in
       let at = get_or_append_left h.gone waiting key n low ∙ get_or_default h.gone n key _ low in
-      record {
-        key = key;
-        among = All-contains (λ k. Contains read k) h.gone key h.below among;
-        node_is = is.1;
-        start_is = is.2;
-        serial_is = serial_at n key (omega (arith, length-append h.gone waiting)) at ∙ omega arith;
-      }
+      let serial : key.serial ≡ length h.gone = serial_at n key (omega (arith, length-append h.gone waiting)) at ∙ omega arith in
+      rw (is.1, is.2, serial) at (own_serial key (All-contains (λ k. Contains read k) h.gone key h.below among))
 
   -- ---- a key is typed
 
   -- no typed key has the name of the next one
   pub new_name : (key : Key) → key.node ≡ i → key.start ≡ start → key.serial ≡ last + 1 → (k : Key) → Contains typed k → ¬ HaveOneName k key
   new_name key of_node of_start next k among name =
-      let has : HasSerial typed i start k.serial =
-      record { key = k; among = among; node_is = name.node ∙ of_node; start_is = name.start ∙ of_start; serial_is = refl } in
-      let inside =
-      of_range 1 last k.serial
-      (subst (λ l. Contains l k.serial) h.serials (serial_in typed i start k.serial has)) in
-      let same = name.serial in
-      omega (arith, inside.1)
+      let has = rw (name.node ∙ of_node, name.start ∙ of_start) at (own_serial k among) in
+      let inside = of_range 1 last k.serial (rw h.serials at (serial_in typed i start k.serial has)) in
+      omega (arith, inside.1, name.serial)
 
   -- the row with one key more
   pub typed_row : (key : Key) → key.node ≡ i → key.start ≡ start → key.serial ≡ last + 1
@@ -169,14 +148,14 @@ module _ {typed : List Key} {i start last : ℕ} {waiting read : List Key} (h : 
       → AreTypedKeys (typed ++ key ∷ []) i start (last + 1) (waiting ++ key ∷ []) read
   typed_row key of_node of_start next was =
       let own = test_of i start key of_node of_start in
+      let name : HaveOneName key key = record { node = refl; start = refl; serial = refl } in
+      let out = λ (among : Contains read key). new_name key of_node of_start next key (was key among) name in
       record {
         serials = row_more i start last typed key own (omega arith) h.serials;
         gone = h.gone;
         newest = own_more i start typed key own ∙ ap (λ l. l ++ key ∷ []) h.newest ∙ append_assoc h.gone waiting _;
         below = h.below;
-        first =
-            first_more read waiting key h.first (λ among. new_name key of_node of_start next key (was key among)
-            (record { node = refl; start = refl; serial = refl }));
+        first = grind (arith, nat_tests, h.first, out);
       }
 
   -- another node's key
@@ -184,7 +163,7 @@ module _ {typed : List Key} {i start last : ℕ} {waiting read : List Key} (h : 
   other_row key ne =
       let same = other_more i start typed key (not_of i start key (λ e f. ne e)) in
       record {
-        serials = ap (map (λ (x : Key). x.serial)) same ∙ h.serials;
+        serials = rw same h.serials;
         gone = h.gone;
         newest = same ∙ h.newest;
         below = h.below;
@@ -211,7 +190,7 @@ module _ {size : ℕ} {sent : Sent} {typed : List Key} {i start last : ℕ} {wai
     (apart : AreApart typed) (was : (k : Key) → Contains (keys_in_order known) k → Contains typed k)
     (key : Key) (keys : List Key) (waits : waiting ≡ key ∷ keys) where
   first_waits : Contains typed key × (key.node ≡ i) × (key.start ≡ start)
-  first_waits = waiting_key h key (subst (λ l. Contains l key) (sym waits) (first_in key keys))
+  first_waits = own_key h key (Contains-append_right h.gone waiting key (rw waits (first_in key keys)))
 
   -- what is read lacks the first that waits, by its name
   first_lacks : ¬ HasSerial (keys_in_order known) key.node key.start key.serial

@@ -3,21 +3,20 @@
 use Rattle.std.proofs.lemmas.Option.{same_Some, slice_get-get_or, slice_get_within}
 use Rattle.std.proofs.lemmas.List.{append-nil, length-set, nil_from_length}
 use Rattle.std.proofs.Common.{◌≡◌, ◌≢◌, ◌∙◌, ◌⊎◌, inl, inr, ℕ, zero, suc, ◌-◌, List, [], ◌∷◌, ◌++◌, append_assoc, length, slice_get, slice_set, get_or, Some, refl, sym, ap, subst, arith}
-use Rattle.std.proofs.lemmas.Bool.{eq-eqb, ne_eqb, cases_eq}
+use Rattle.std.proofs.lemmas.Bool.{eq-eqb, ne_eqb}
 use Rattle.paxos_msg.specs.declared.message.Group.{Group}
 use Rattle.group_protocol.specs.Packets.{Datagram}
 use Rattle.group_node.specs.Deeds.{Campaign, Crash, Deed, Hear, Idle, Press, Release, Run, Start, Tick}
 use Rattle.group_world.specs.declared.event.Act.{Act}
 use Rattle.group_world.specs.declared.event.Act.TheVariants as act
 use Rattle.group_world.specs.declared.event.Event.{Event}
-use Rattle.group_world.specs.Event.{DoesAt, HearsOf, IsDeedOf, LeadsBy, node_of, plan_of, Goes}
+use Rattle.group_world.specs.Event.{DoesAt, HearsOf, IsDeedOf, LeadsBy, node_of, plan_of}
 use Rattle.group_world.specs.Group.{World, me_of, member_at, messages_in}
 use Rattle.group_world.specs.Member.{Member}
 use Rattle.group_world.specs.Processes.{AreEvents, AreEventsOf, AreEventsOfEntry, DoesEntry, Entry, IsCarried, IsHistory, IsLog, after_log, entries_of, left_by, sent_in, typed_in, MayBeLogged, HasMoment}
 use Rattle.group_world.proofs.CallLeaves.{idle_leads}
 use Rattle.group_world.proofs.WorldAsGroup.{each_changed, changed_here, changed_elsewhere}
 use Rattle.group_world.proofs.HoldsAfterEvents.{happens_then, heard_by}
-use Rattle.group_world.specs.declared.event.Done.{Done}
 
 -- ---- one entry
 
@@ -33,9 +32,8 @@ module _ (w : World) (e : Entry) (m : Member) (there : member_at w.members e.nod
   entry_leads new [] (d, does) idle =
       idle_leads w e.node m there {left = left_by e d new} (rw idle at does)
   entry_leads new (one ∷ events) (d, does) (of_act, at, saved, none) =
-      let left = left_by e d new in
       let goes : DoesAt w e.node (plan_of e.save) e.deed d (moved w e new) =
-      record { node = m; there = there; left = left; does = does; answers = refl; leads = refl } in
+      record { node = m; there = there; left = left_by e d new; does = does; answers = refl; leads = refl } in
       (moved w e new, d, record { deed = e.deed; is_deed = of_act; does = rw (at, saved) goes }, rw none refl)
 
 -- a deed is idle, or that of an act at its node
@@ -54,20 +52,16 @@ deed_has_act group sent i Release heard = inr (act.Release i, refl, refl)
 deed_has_act group sent i Crash heard = inr (act.Crash i, refl, refl)
 
 -- so each entry that hears what was sent before has its events
-entry_has_events : (group : Group) (sent : List Datagram) (e : Entry) → HearsOf group sent e.deed
-    → (events : List Event) × AreEventsOfEntry group sent e events
-entry_has_events group sent e heard = elim (deed_has_act group sent e.node e.deed heard) [
-  | inl idle ↦ ([], idle)
-  | inr (a, of_act, at) ↦ ((record { act = a; save = e.save }) ∷ [], (of_act, at, refl, refl))
-]
-
 log_has_events : (group : Group) (sent : List Datagram) (log : List Entry) → IsCarried group sent log
     → (events : List Event) × AreEventsOf group sent log events
 log_has_events group sent [] carried = ([], refl)
 log_has_events group sent (e ∷ log) (heard, carried) =
-    let (first, one) = entry_has_events group sent e heard in
     let (rest, more) = log_has_events group (sent ++ e.sent) log carried in
-    (first ++ rest, (first, rest, one, more, refl))
+    elim (deed_has_act group sent e.node e.deed heard) [
+      | inl idle ↦ (rest, ([], rest, idle, more, refl))
+      | inr (a, of_act, at) ↦ let one : Event = record { act = a; save = e.save } in
+          (one ∷ rest, (one ∷ [], rest, (of_act, at, refl, refl), more, refl))
+    ]
 
 -- ---- a log
 
@@ -88,40 +82,8 @@ member_there members now zero last long at = absurd cc
 member_there members now (suc k) last long at =
     (get_or members k last, slice_get-get_or members k last (omega (arith, slice_get_within now k last at)))
 
--- the entries of the first entry's node, and of another
-pub own_entries : (e : Entry) (log : List Entry) → entries_of e.node (e ∷ log) ≡ e ∷ entries_of e.node log
-own_entries e log = rw (eq-eqb e.node e.node refl) refl
-
-pub other_entries : (e : Entry) (log : List Entry) (j : ℕ) → j ≢ e.node → entries_of j (e ∷ log) ≡ entries_of j log
-other_entries e log j ne = rw (ne_eqb e.node j (λ same. ne (sym same))) refl
-
--- no entries
-log_ends : (w : World) (now : List Member) → IsLog w [] now → after_log w [] now ≡ w
-log_ends w now h =
-    let same = same_items w.members now h.places (λ k x y p q. h.nodes (suc k) x y p q) in
-    rw (same, append-nil w.sent, append-nil w.typed) refl
-
--- the rest of a log is one of the world after its first entry
-pub log_goes_on : (w : World) (e : Entry) (log : List Entry) (now : List Member) (m last mid : Member)
-    → member_at w.members e.node ≡ Some m → member_at now e.node ≡ Some last
-    → IsHistory w.program (me_of w e.node) mid (entries_of e.node log) last → IsLog w (e ∷ log) now
-    → IsLog (moved w e mid) log now
-log_goes_on w e log now m last mid there at rest h =
-    let P : ℕ → Member → Type 0 = λ i x. (z : Member) → member_at now i ≡ Some z → IsHistory w.program (me_of w i) x (entries_of i log) z in
-    let own : P e.node mid = λ z z_at. subst (IsHistory w.program (me_of w e.node) mid (entries_of e.node log))
-    (same_Some last z (sym at ∙ z_at)) rest in
-    let others : (j : ℕ) (other : Member) → j ≢ e.node → member_at w.members j ≡ Some other → P j other =
-    λ j other ne other_at z z_at.
-    subst (λ es. IsHistory w.program (me_of w j) other es z) (other_entries e log j ne) (h.nodes j other z other_at z_at) in
-    record {
-      places = h.places ∙ sym (length-set w.members (e.node - 1) mid);
-      among = h.among.1;
-      nodes = λ i x z x_at z_at. each_changed w.members e.node m mid there P own others i x x_at z z_at;
-      carried = h.carried.1;
-    }
-
 -- the nodes and what was sent and typed are the same, the one way or the other
-pub after_both : (w : World) (e : Entry) (log : List Entry) (now : List Member) (mid : Member)
+after_both : (w : World) (e : Entry) (log : List Entry) (now : List Member) (mid : Member)
     → after_log (moved w e mid) log now ≡ after_log w (e ∷ log) now
 after_both w e log now mid = rw (append_assoc w.sent e.sent (sent_in log), append_assoc w.typed e.typed (typed_in log)) refl
 
@@ -130,22 +92,34 @@ pub log_first : (w : World) (e : Entry) (log : List Entry) (now : List Member) (
     → IsLog w (e ∷ log) now → (new : Member) × DoesEntry w.program (me_of w e.node) m e new × IsLog (moved w e new) log now
 log_first w e log now m there h =
     let (last, at) = h.among.0 in
-    let history = subst (λ es. IsHistory w.program (me_of w e.node) m es last) (own_entries e log) (h.nodes e.node m last there at) in
-    let (mid, does, rest) = history in
-    (mid, does, log_goes_on w e log now m last mid there at rest h)
+    let (mid, does, rest) = rw (eq-eqb e.node e.node refl) at (h.nodes e.node m last there at) in
+    let P : ℕ → Member → Type 0 = λ i x. (z : Member) → member_at now i ≡ Some z → IsHistory w.program (me_of w i) x (entries_of i log) z in
+    let own : P e.node mid = λ z z_at. subst (IsHistory w.program (me_of w e.node) mid (entries_of e.node log))
+    (same_Some last z (sym at ∙ z_at)) rest in
+    let others : (j : ℕ) (other : Member) → j ≢ e.node → member_at w.members j ≡ Some other → P j other =
+    λ j other ne other_at z z_at. rw (ne_eqb e.node j (λ same. ne (sym same))) at (h.nodes j other z other_at z_at) in (
+      mid,
+      does,
+      record {
+        places = h.places ∙ sym (length-set w.members (e.node - 1) mid);
+        among = h.among.1;
+        nodes = λ i x z x_at z_at. each_changed w.members e.node m mid there P own others i x x_at z z_at;
+        carried = h.carried.1;
+      },
+    )
 
 -- the events of a log lead to its nodes
 pub events_lead : (log : List Entry) (w : World) (now : List Member) (events : List Event) → IsLog w log now
     → AreEventsOf w.group w.sent log events → LeadsBy w events (after_log w log now)
-events_lead [] w now events h is = subst (λ es. LeadsBy w es (after_log w [] now)) (sym is) (log_ends w now h)
+events_lead [] w now events h is =
+    let same = same_items w.members now h.places (λ k x y p q. h.nodes (suc k) x y p q) in
+    rw (is, same, append-nil w.sent, append-nil w.typed) refl
 events_lead (e ∷ log) w now events h (first, rest, one, more, is) =
     let (last, at) = h.among.0 in
     let (m, there) = member_there w.members now e.node last h.places at in
     let (mid, does, others) = log_first w e log now m there h in
-    let then = events_lead log (moved w e mid) now rest others more in
-    subst (λ es. LeadsBy w es (after_log w (e ∷ log) now)) (sym is)
-    (happens_then w first rest (moved w e mid) (after_log w (e ∷ log) now) (entry_leads w e m there mid first does one)
-    (subst (LeadsBy (moved w e mid) rest) (after_both w e log now mid) then))
+    let then = rw (after_both w e log now mid) at (events_lead log (moved w e mid) now rest others more) in
+    rw is (happens_then w first rest (moved w e mid) (after_log w (e ∷ log) now) (entry_leads w e m there mid first does one) then)
 
 -- a log is what some events do
 pub log_leads : (log : List Entry) (w : World) (now : List Member) → IsLog w log now → AreEvents w log now
@@ -154,84 +128,40 @@ log_leads log w now h =
 
 -- ---- events as a log
 
--- an entry that is this event, and leads to a world
-abbrev Leads : World → Event → World → Type 0
-Leads w one v =
-    (e : Entry) × (m : Member) × (new : Member) × (member_at w.members e.node ≡ Some m)
-    × DoesEntry w.program (me_of w e.node) m e new × HearsOf w.group w.sent e.deed
-    × AreEventsOfEntry w.group w.sent e (one ∷ []) × (v ≡ moved w e new)
-
--- each event is an entry
-event_entry : (w v : World) (one : Event) (d : Done) → Goes w one d v → Leads w one v
-event_entry w v one d goes =
-    let left = goes.does.left in (
-      record { node = node_of one.act; deed = goes.deed; save = one.save; sent = left.sent; typed = left.typed },
-      goes.does.node,
-      left.member,
-      goes.does.there,
-      (left.answer, goes.does.does),
-      heard_by w.group w.sent one.act goes.deed goes.is_deed,
-      (goes.is_deed, refl, refl, refl),
-      goes.does.leads,
-    )
-
 -- an entry, and then a log
 pub log_before : (w : World) (e : Entry) (log : List Entry) (now : List Member) (m new : Member)
     → member_at w.members e.node ≡ Some m → DoesEntry w.program (me_of w e.node) m e new → HearsOf w.group w.sent e.deed
     → IsLog (moved w e new) log now → IsLog w (e ∷ log) now
 log_before w e log now m new there does heard h =
-    let places = h.places ∙ length-set w.members (e.node - 1) new in
-    record {
-      places = places;
-      among = (member_there now w.members e.node m (sym places) there, h.among);
-      nodes = λ i x z x_at z_at. elim (cases_eq i e.node) [
-        | inl same ↦ own i x z same x_at z_at
-        | inr ne ↦
-            subst (λ es. IsHistory w.program (me_of w i) x es z) (sym (other_entries e log i ne))
-            (h.nodes i x z (changed_elsewhere w.members e.node i m new there ne ∙ x_at) z_at)
-      ];
-      carried = (heard, h.carried);
-    }
+    grind (arith, length-set, member_there, own, changed_elsewhere)
   where
     own : (i : ℕ) (x z : Member) → i ≡ e.node → member_at w.members i ≡ Some x → member_at now i ≡ Some z
         → IsHistory w.program (me_of w i) x (entries_of i (e ∷ log)) z
     own i x z same x_at z_at =
-        let x_there : member_at w.members e.node ≡ Some x = rw same at x_at in
-        let z_there : member_at now e.node ≡ Some z = rw same at z_at in
-        let x_is : m ≡ x = same_Some m x (sym there ∙ x_there) in
-        let rest = h.nodes e.node new z (changed_here w.members e.node m new there) z_there in
-        subst (λ k. IsHistory w.program (me_of w k) x (entries_of k (e ∷ log)) z) (sym same)
-        (rw (← x_is) (subst (λ es. IsHistory w.program (me_of w e.node) m es z) (sym (own_entries e log)) (new, does, rest)))
+        grind (arith, changed_here w.members e.node m new there)
 
 pub no_log : (w v : World) → v ≡ w → IsLog w [] v.members × (v ≡ after_log w [] v.members)
-no_log w v is = (
-  record {
-    places = ap (λ (x : World). length x.members) is;
-    among = tt;
-    nodes = λ i x z x_at z_at. same_Some z x (sym z_at ∙ ap (λ (u : World). member_at u.members i) is ∙ x_at);
-    carried = tt;
-  },
-  rw (is, append-nil w.sent, append-nil w.typed) refl,
-)
+no_log w v is = grind (arith, append-nil w.sent, append-nil w.typed)
 
--- what events do, some log does
+-- what events do, some log does: each event is an entry
 pub leads_log : (events : List Event) (w v : World) → LeadsBy w events v → MayBeLogged w events v
 leads_log [] w v is = let found = no_log w v is in ([], found.0, refl, found.1)
-leads_log (e ∷ events) w v (mid, d, goes, rest) =
-    let (entry, m, new, there, does, heard, one, is) = event_entry w mid e d goes in
-    let (log, h, are, whole) = subst (λ (x : World). MayBeLogged x events v) is (leads_log events mid v rest) in (
-      entry ∷ log,
-      log_before w entry log v.members m new there does heard h,
-      (e ∷ [], events, one, are, refl),
-      whole ∙ after_both w entry log v.members new,
+leads_log (one ∷ events) w v (mid, d, goes, rest) =
+    let left = goes.does.left in
+    let e : Entry = record { node = node_of one.act; deed = goes.deed; save = one.save; sent = left.sent; typed = left.typed } in
+    let heard = heard_by w.group w.sent one.act goes.deed goes.is_deed in
+    let (log, h, are, whole) = leads_log events (moved w e left.member) v (rw goes.does.leads at rest) in (
+      e ∷ log,
+      log_before w e log v.members goes.does.node left.member goes.does.there (left.answer, goes.does.does) heard h,
+      (one ∷ [], events, (goes.is_deed, refl, refl, refl), are, refl),
+      whole ∙ after_both w e log v.members left.member,
     )
 
 -- ---- a log in two parts
 
 pub log_parts : (log more : List Entry) (w : World) (now : List Member) → IsLog w (log ++ more) now → HasMoment w log more now
 log_parts [] more w now h =
-    let none = no_log w w refl in
-    (w.members, record { before = none.0; after = subst (λ (x : World). IsLog x more now) none.1 h })
+    grind (arith, no_log w w refl)
 log_parts (e ∷ log) more w now h =
     let (last, at) = h.among.0 in
     let (m, there) = member_there w.members now e.node last h.places at in
@@ -240,6 +170,6 @@ log_parts (e ∷ log) more w now h =
       mid,
       record {
         before = log_before w e log mid m new there does h.carried.0 found.before;
-        after = subst (λ (x : World). IsLog x more now) (after_both w e log mid new) found.after;
+        after = rw (after_both w e log mid new) at found.after;
       },
     )

@@ -1,6 +1,6 @@
 -- The lines of a text and what they say, line by line, for `read_script`.
-use Rattle.std.proofs.Common.{◌≡◌, ℕ, ◌+◌, ◌<◌, ◌==◌, List, [], ◌∷◌, ◌++◌, length, take, refl, ap, append_assoc, length-append, arith, subst, sym, ◌∙◌, Bool, true, false, suc, ◌-◌}
-use Rattle.std.specs.Prelude.{Option, Some, None, Result, Ok, Err, IsOk}
+use Rattle.std.proofs.Common.{◌≡◌, ℕ, ◌+◌, ◌<◌, ◌==◌, List, [], ◌∷◌, ◌++◌, length, refl, ap, append_assoc, length-append, arith, sym, ◌∙◌, Bool, true, false, suc, ◌-◌}
+use Rattle.std.specs.Prelude.{Option, Some, None, Result, Ok, Err}
 use Rattle.std.specs.List.{position_or_len, before_first, after_first}
 use Rattle.std.proofs.lemmas.List.{append-nil}
 use Rattle.std.proofs.lemmas.Bool.Decides.{nat_tests}
@@ -85,8 +85,7 @@ pub script_then : (text : List ℕ) (group : ℕ × ℕ) {xs : List Line} {left 
     → header_of (line_in text) ≡ Some group → IsReadTo (lines_of (rest_of text)) xs left
     → after xs (lines_say (length xs + 2) left) ≡ r → script_of text ≡ script_after (Some group) r
 script_then text group {xs} {left} header h e =
-    let (says, count) = said_then 2 (length h.read + 2) h.read left xs h.says (omega arith) in
-    rw (script_of-first text, header, h.whole, says, ← count, e) refl
+    grind (arith, said_then 2 (length h.read + 2) h.read left xs h.says (omega arith), script_of-first text)
 
 -- one more line is read
 pub read_next : (all : List (List ℕ)) (xs ys : List Line) (rest more : List ℕ) (l : Line)
@@ -100,22 +99,15 @@ read_next all xs ys rest more l h some e left items = record {
   says = rw items ((said_then 2 _ h.read (line_in rest ∷ []) xs h.says refl).0 ∙ rw e refl);
 }
 
--- a text whose first line is good has one
-header_first : (text : List ℕ) (group : ℕ × ℕ) → header_of (line_in text) ≡ Some group
-    → lines_of text ≡ line_in text ∷ lines_of (rest_of text)
-header_first text group e = lines_of-first text (grind (arith, nat_tests))
-
 -- the next line is reached after others were read
 pub reached : (text : List ℕ) (group : ℕ × ℕ) (xs : List Line) (rest : List ℕ) (n : ℕ)
     → header_of (line_in text) ≡ Some group
     → IsReadTo (lines_of (rest_of text)) xs (lines_of rest) → 0 < length rest → n ≡ length xs + 2
     → IsReached text n
 reached text group xs rest n header h some number =
-    let all = header_first text group header ∙ ap (λ ls. line_in text ∷ ls) h.whole in
+    let all = lines_of-first text (grind (arith, nat_tests)) ∙ ap (λ ls. line_in text ∷ ls) h.whole in
     let count = (said_then 2 _ h.read [] xs h.says refl).1 in
     let left = ap length (lines_of-first rest some) in
     let size = ap length all ∙ ap (λ k. suc k) (length-append h.read _) in
     let before : n - 1 ≡ suc (length h.read) = omega arith in
-    let script : script_in (take (n - 1) (lines_of text)) ≡ script_after (Some group) (Ok xs) =
-    rw (before, all, take-append_seam h.read (lines_of rest), header, h.says) refl in
-    record { there = omega arith; before = subst IsOk (sym script) refl }
+    record { there = omega arith; before = rw (before, all, take-append_seam h.read (lines_of rest), header, h.says) refl }

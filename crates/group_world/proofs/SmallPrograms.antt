@@ -1,5 +1,6 @@
 -- Steps of machines that exist, and two small programs that write the letter A.
 use Rattle.std.proofs.Common.{◌≡◌, ◌∙◌, ℕ, zero, suc, ◌&&◌, ◌≤◌, Bool, true, false, List, [], ◌∷◌, drop, length, slice_get, Some, refl, sym, ap, arith, length-append}
+use Rattle.std.proofs.lemmas.Bool.Decides.{nat_tests}
 use Rattle.std.proofs.lemmas.Bool.{and_parts}
 use Rattle.pcode_file.specs.Parts.{Parts}
 use Rattle.pcode_ops.specs.Decoding.{instr_of}
@@ -7,7 +8,6 @@ use Rattle.pcode_machine.specs.Configuration.{Configuration}
 use Rattle.pcode_machine.specs.Transition.{Goes as Leads_to, Transition, transition}
 use Rattle.pcode_machine.specs.Runs.{IsPrefix, LeadsIn, after_steps, led, out}
 use Rattle.std.specs.FinMap.{empty, insert}
-use Rattle.paxos_msg.specs.declared.value.Value.{Value}
 use Rattle.paxos_msg.specs.declared.value.Value.TheVariants.{Keys}
 use Rattle.paxos_learner.specs.Input.{learned_input}
 use Rattle.paxos_learner.proofs.OnePlace.{get_here}
@@ -30,8 +30,7 @@ all_go p x (suc n) = all_go p x n && is_step (transition p x (after_steps p x n)
 pub goes_by : (p : Parts) (x : List ℕ) (c : Configuration) (o : Transition) → is_step o ≡ true → transition p x c ≡ o
     → transition p x c ≡ Leads_to (led c o)
 unfolding is_step
-goes_by p x c (Leads_to d) h e = e
-goes_by p x c other h e = absurd cc
+goes_by p x c other h e = grind (arith, nat_tests)
 
 leads_by : (p : Parts) (x : List ℕ) (n : ℕ) → all_go p x n ≡ true → LeadsIn p x n (after_steps p x n)
 unfolding all_go LeadsIn after_steps
@@ -92,5 +91,4 @@ echoes_letter = record { goes = refl; writes = refl }
 -- where the letter is the first key that was learned
 pub echoes_first : (node start : ℕ) → WritesLetter echoes (learned_input (insert empty 0 (Keys node start 1 (65 ∷ []))))
 echoes_first node start =
-    let key : Value = Keys node start 1 (65 ∷ []) in
-    rw (entries_one 0 key, get_here empty 0 key) echoes_letter
+    grind (arith, entries_one, get_here, echoes_letter)

@@ -1,7 +1,7 @@
 -- The claims about a sound world, for the law `sound_worlds_agree`: what is learned is chosen, and
 -- what machines write and consoles show is output on chosen values. First, a console after a byte
 -- that its node releases.
-use Rattle.std.proofs.Common.{◌≡◌, ◌≢◌, ◌∙◌, ℕ, List, Contains, Option, None, Some, option_map, inl, inr, refl, sym, ap, slice_get, ◌<◌, ◌≤◌, [], length, append-nil, arith, zero, suc, ◌+◌, ◌⊎◌, ◌∷◌, ◌++◌, drop, take, append_assoc, length-append}
+use Rattle.std.proofs.Common.{◌≡◌, ◌≢◌, ◌∙◌, ℕ, List, Contains, Option, None, Some, option_map, inl, inr, refl, sym, ap, slice_get, ◌<◌, ◌≤◌, [], length, append-nil, arith, zero, suc, ◌+◌, ◌⊎◌, ◌∷◌, ◌++◌, drop, append_assoc, length-append}
 use Rattle.std.specs.FinMap.{get, FinMap}
 use Rattle.pcode_machine.specs.Runs.{IsOutput, out, AreComparable, IsPrefix}
 use Rattle.paxos_msg.specs.declared.value.Value.{Value}
@@ -55,10 +55,6 @@ push_prefix a all b h e = by h.rest h.whole where
   by [] whole = absurd (omega (arith, slice_get_within all (length a) b e, ap length whole, length-append a []))
   by (x ∷ xs) whole = record { rest = xs; whole = grind (arith, nat_tests, here_place, append_assoc) }
 
--- an element that both of two comparable lists have is the same
-compare_get : (a b : List ℕ) (k x y : ℕ) → AreComparable a b → slice_get a k ≡ Some x → slice_get b k ≡ Some y → x ≡ y
-compare_get a b k x y h e f = grind (arith, nat_tests, left_place)
-
 -- ---- the offer
 
 -- Byte `k` of some output is offered to a console that is comparable with the output, so begins it
@@ -76,7 +72,7 @@ module _ {console all : List ℕ} {k b : ℕ} (h : IsOffer console all k b) wher
 
   -- a byte that comes again is there
   repeat_is_same : offer_answer console k ≡ Repeat → slice_get console k ≡ Some b
-  repeat_is_same again = grind (arith, nat_tests, h.shown, h.compare, slice_get-get_or console k 0, compare_get)
+  repeat_is_same again = grind (arith, nat_tests, h.shown, h.compare, h.byte, slice_get-get_or console k 0, left_place)
 
   -- the console shows the byte after the offer
   pub shown_then : k + 1 ≤ length (offered console k b)
@@ -108,12 +104,7 @@ pub record PlayLaws : Type 0 where
 -- what is learned up to the front is chosen
 pub front_chosen : FrontLaws → {size : ℕ} {sent : Sent} {learned : FinMap nat_cmp Value} → IsLearnedChosen size sent learned
     → AreChosen size sent (front_values learned)
-front_chosen laws {learned = learned} h = record {
-  chosen = λ s v e.
-      let low : s < front_of learned =
-      omega (arith, laws.many learned (front_of learned) (omega arith), slice_get_within (front_values learned) s v e) in
-      h.chosen s v (sym (laws.at_place learned (front_of learned) s (omega arith) low) ∙ e);
-}
+front_chosen laws {learned = learned} h = grind (arith, slice_get_within)
 
 module _ (laws : PlayLaws) {w : World} (h : IsSound w) where
   -- output on chosen values is output on the chosen input
@@ -146,10 +137,6 @@ module _ (laws : PlayLaws) {w : World} (h : IsSound w) where
       let compare = console_compares up in
       record { compare = compare; begins = laws.shorter m.console (written q) compare; shown = (running h up).shown; byte = e }
 
--- comparable lists begin alike
-first_alike : (a b : List ℕ) (k : ℕ) → AreComparable a b → k ≤ length a → k ≤ length b → take k b ≡ take k a
-first_alike a b k h low high = grind (arith, nat_tests, take-append-le)
-
 -- ---- the claims
 
 -- The laws of agreement: at most one value is chosen at a place; it is a no-op or was submitted.
@@ -169,14 +156,13 @@ node_up : (o : Option Running) (u : Up) → option_map up_of o ≡ Some u → (q
 node_up None u e = absurd cc
 node_up (Some q) u e = (q, refl, cc)
 
-member_up : (w : World) (i : ℕ) (u : Up) (o : Option Member) → member_at w.members i ≡ o → (seat_of_member o).up ≡ Some u → IsSeenUp w i u
-member_up w i u None there e = absurd cc
-member_up w i u (Some m) there e =
-    let (q, up, seen) = node_up m.node u e in
-    record { member = m; running = q; is_up = record { there = there; up = up }; seen = seen }
-
 seen_up : (w : World) (i : ℕ) (u : Up) → ((world_state w).seats i).up ≡ Some u → IsSeenUp w i u
-seen_up w i u e = member_up w i u _ refl e
+seen_up w i u e = by _ refl e where
+  by : (o : Option Member) → member_at w.members i ≡ o → (seat_of_member o).up ≡ Some u → IsSeenUp w i u
+  by None there e = absurd cc
+  by (Some m) there e =
+      let (q, up, seen) = node_up m.node u e in
+      record { member = m; running = q; is_up = record { there = there; up = up }; seen = seen }
 
 module _ (laws : ChoiceLaws) (w : World) (h : IsSound w) where
   -- what is learned is chosen
@@ -185,7 +171,7 @@ module _ (laws : ChoiceLaws) (w : World) (h : IsSound w) where
       let seen = seen_up w i has.node has.up in
       (running h seen.is_up).learned.chosen s v (ap (λ (u : Up). get u.learned s) seen.seen ∙ has.learned)
 
-  typed_of : (v : Value) → IsFree (world_state w).sent v → (k : Key) → Contains (keys_of v) k → Contains (world_state w).typed k
+  pub typed_of : (v : Value) → IsFree (world_state w).sent v → (k : Key) → Contains (keys_of v) k → Contains (world_state w).typed k
   typed_of v (inl noop) k among = absurd (none_in k (rw noop at among))
   typed_of v (inr said) k among = (h.submitted said.0 v said.1).known k among
 
@@ -198,13 +184,11 @@ module _ (laws : ChoiceLaws) (w : World) (h : IsSound w) where
       (chosen, typed_of v (laws.free w.group.size s _ _ v h.grew chosen))
 
 module _ (laws : PlayLaws) (w : World) (h : IsSound w) where
-  seat_output : (i : ℕ) (o : Option Member) (x : List ℕ) → member_at w.members i ≡ o
-      → IsInput w.group.size (world_state w).sent x → IsOutput w.program x (seat_of_member o).console
-  seat_output i None x e chosen = (0, record { rest = out w.program x 0; whole = refl })
-  seat_output i (Some m) x e chosen = console_output laws h i m x e chosen
-
   pub consoles_hold_output : ConsolesHoldOutput (world_state w)
-  consoles_hold_output x i chosen = seat_output i _ x refl chosen
+  consoles_hold_output x i chosen = by _ refl where
+    by : (o : Option Member) → member_at w.members i ≡ o → IsOutput w.program x (seat_of_member o).console
+    by None e = (0, record { rest = out w.program x 0; whole = refl })
+    by (Some m) e = console_output laws h i m x e chosen
 
   pub consoles_agree : ConsolesAgree (world_state w)
   consoles_agree i j =
@@ -226,7 +210,5 @@ module _ (laws : PlayLaws) (w : World) (h : IsSound w) where
       let seen = seen_up w i node up in
       let q = seen.running in
       let sound = running h seen.is_up in
-      let alike =
-      first_alike seen.member.console (written q) q.progress.released (console_compares laws h seen.is_up) sound.shown
-      sound.replay.released in
-      rw (← seen.seen, seen.is_up.there) (sound.shown, alike)
+      let alike = console_compares laws h seen.is_up in
+      rw (← seen.seen, seen.is_up.there) (sound.shown, grind (arith, nat_tests, take-append-le, sound.shown, sound.replay.released))

@@ -2,7 +2,7 @@
 use Rattle.std.proofs.lemmas.List.{append-nil, map-append}
 use Rattle.std.proofs.lemmas.List.Elements.{Contains-append_left, Contains-append_right, Contains-append_cases, filter_map-append}
 use Rattle.std.proofs.lemmas.Grind.{flat_map-append}
-use Rattle.std.proofs.Common.{◌≡◌, ◌<◌, ◌≤◌, List, [], ◌∷◌, ◌++◌, append_assoc, inl, inr, sym, subst, arith}
+use Rattle.std.proofs.Common.{◌≡◌, ◌<◌, ◌≤◌, List, [], ◌∷◌, ◌++◌, append_assoc, inl, inr, sym, arith}
 use Rattle.std.specs.List.{AllByRecursion, Contains}
 use Rattle.paxos_msg.specs.declared.message.Group.{Group}
 use Rattle.paxos_msg.specs.Batches.{Msg}
@@ -20,9 +20,8 @@ module _ (group : Group) where
       → Contains (messages_in group (sent_in (untimed front))) m
   sent_by_one [] y m there said = absurd (none_in y there)
   sent_by_one (x ∷ front) y m there said =
-      let both = filter_map-append (message_of group) x.entry.sent (sent_in (untimed front)) in
-      subst (λ ms. Contains ms m) (sym both) (elim (in_cases x front y there) [
-        | inl e ↦ Contains-append_left _ _ m (subst (λ (z : Timed). Contains (messages_in group z.entry.sent) m) (sym e) said)
+      rw (filter_map-append (message_of group) x.entry.sent (sent_in (untimed front))) (elim (in_cases x front y there) [
+        | inl e ↦ Contains-append_left _ _ m (rw (← e) at said)
         | inr h ↦ Contains-append_right _ _ m (sent_by_one front y m h said)
       ])
 
@@ -42,7 +41,7 @@ module _ (group : Group) where
     one_heard : (front rest : List Timed) (x : Timed) (deed : Deed) → AllByRecursion (λ z. x.time ≤ z.time) rest
         → HearsEarlier group (front ++ x ∷ rest) x.time deed → HearsOf group (before front) deed
     one_heard front rest x (Hear m) later (y, there, earlier, said) =
-        subst (λ ms. Contains ms m) (sym (filter_map-append (message_of group) sent (sent_in (untimed front))))
+        rw (filter_map-append (message_of group) sent (sent_in (untimed front)))
         (Contains-append_right (messages_in group sent) _ m (sent_by_one front y m (sender_in_front front rest x y later there earlier)
         said))
     one_heard front rest x _ later heard = tt
@@ -55,14 +54,9 @@ module _ (group : Group) where
         (untimed rest)
     all_carried front [] order heard = tt
     all_carried front (x ∷ rest) order heard =
-        let more : List Timed = front ++ x ∷ [] in
-        let same : more ++ rest ≡ front ++ x ∷ rest = append_assoc front (x ∷ []) rest in
-        let heard_so = subst (λ all. AllHearEarlier group all rest) (sym same) heard.1 in
-        let next = all_carried more rest order.1 heard_so in (
-          one_heard front rest x x.entry.deed order.0 heard.0,
-          subst (λ all. IsCarried group all (untimed rest)) (next_before front x) next,
-        )
+        let next = all_carried (front ++ x ∷ []) rest order.1 (rw (append_assoc front (x ∷ []) rest) heard.1) in
+        (one_heard front rest x x.entry.deed order.0 heard.0, rw (next_before front x) at next)
 
     pub timed_is_carried : (log : List Timed) → IsByTime log → AllHearEarlier group log log → IsCarried group sent (untimed log)
     timed_is_carried log order heard =
-        subst (λ all. IsCarried group all (untimed log)) (append-nil sent) (all_carried [] log order heard)
+        rw (append-nil sent) at (all_carried [] log order heard)

@@ -2,14 +2,13 @@
 -- `a_written_log`; the events of the witness lead to a world in which the key is learned and shown,
 -- for `keys_may_show`; and two consoles show a byte, for `consoles_may_show`. First, what each node
 -- of the first log knows after each of its calls.
-use Rattle.std.proofs.Common.{◌≡◌, ℕ, length, All, List, [], ◌∷◌, map, replicate, slice_get, slice_set, take, Some, refl, arith, ◌++◌}
-use Rattle.std.proofs.lemmas.List.Elements.{All-from_recursion}
+use Rattle.std.proofs.Common.{◌≡◌, ℕ, length, List, [], ◌∷◌, map, replicate, slice_set, Some, refl, arith, ◌++◌}
 use Rattle.std.specs.FinMap.{FinMap, empty, get-empty, insert, remove}
 use Rattle.std.specs.Ordering.{nat_cmp}
 use Rattle.paxos_msg.specs.declared.message.Body.TheVariants.{Accept, Accepted, Ask, Prepare, Promise, Submit}
 use Rattle.paxos_msg.specs.declared.record.Change.TheVariants as change
 use Rattle.paxos_msg.specs.declared.value.Value.{Value}
-use Rattle.paxos_msg.specs.Batches.{Msg, Record}
+use Rattle.paxos_msg.specs.Batches.{Record}
 use Rattle.paxos_msg.specs.Fits.{IsGroup}
 use Rattle.paxos_acceptor.specs.declared.me.Me.{Me}
 use Rattle.paxos_proposer.specs.Proposer.{Proposer, new_proposer, proposing}
@@ -18,25 +17,22 @@ use Rattle.paxos_learner.specs.Tallies.{Tally, begun_tally}
 use Rattle.paxos_learner.proofs.OnePlace.{get_here}
 use Rattle.group_protocol.specs.Known.{Known, Response}
 use Rattle.group_protocol.specs.Packets.{to_all, to_one}
-use Rattle.group_protocol.specs.Protocol.{on_message}
 use Rattle.group_protocol.specs.Pump.{pump}
 use Rattle.group_protocol.specs.States.{IsSize}
-use Rattle.group_protocol.specs.Tick.{on_tick}
 use Rattle.group_world.specs.Event.{LeadsBy, kept_event}
-use Rattle.group_world.specs.Group.{messages_in, new_world, world_state, World}
+use Rattle.group_world.specs.Group.{new_world, world_state, World}
 use Rattle.group_world.specs.Headline.{HasLearned}
 use Rattle.group_world.specs.KeyLog.{ballot, key_after, key_events, key_log, typed_letter, letter_value, node_1, node_2, node_3, promised_record, voted_record}
 use Rattle.group_world.specs.Member.{Member}
 use Rattle.group_world.specs.Processes.{AreEventsOf, IsLog}
 use Rattle.group_world.specs.Witness.{echoes, letter, letter_batch, one, shown_events, letter_program}
-use Rattle.group_world.specs.WrittenLogs.{started_times, three_nodes, node_in}
+use Rattle.group_world.specs.WrittenLogs.{started_times, three_nodes}
 use Rattle.group_world.proofs.ChainedSteps.{own_keys}
 use Rattle.group_world.proofs.SmallPrograms.{StepsLaw, echoes_first, writes_letter}
 use Rattle.group_world.proofs.WrittenVotes.{has_learned}
 use Rattle.group_world.proofs.OrderPossible.{me}
-use Rattle.group_world.proofs.ProcessEvents.{events_lead}
 use Rattle.group_world.proofs.WorldAsGroup.{ReadLaw, stopped}
-use Rattle.group_world.proofs.WrittenLogs.{◌▸◌, FitsIn, Ran, Said, campaigns, datagram_by, hears, message_by, numbered, presses, releases, runs, starts, stop, ticks, crashes, fails, asking, campaigns_so, fresh, prepares, promised, unsaved}
+use Rattle.group_world.proofs.WrittenLogs.{◌▸◌, AreNumbered, Ran, Said, campaigns, hears, leads_to, numbered, presses, releases, runs, starts, stop, ticks, crashes, fails, asking, campaigns_so, fresh, prepares, promised, unsaved}
 use Rattle.group_protocol.proofs.Elements.{entries_none, entries_one}
 use Rattle.group_world.specs.declared.event.Done.TheVariants.{Fell}
 use Rattle.group_world.specs.declared.event.Outcome.TheVariants.{FailedOld}
@@ -101,18 +97,6 @@ abbrev promising : Me → Response
 promising me =
     record { node = promises me; saves = Some (change.Promise ballot); sends = to_one 1 (Promise ballot 0 65536 []) ∷ [] }
 
-first_promise : on_message (leading (new_proposer ballot 0 3)) 2 (Promise ballot 0 65536 []) ≡ quiet (leading half)
-unfolding pump
-first_promise = refl
-
-second_promise : on_message (leading half) 3 (Promise ballot 0 65536 []) ≡ quiet (leading whole)
-unfolding pump
-second_promise = refl
-
-submitted : on_message (leading whole) 2 (Submit letter_value) ≡ unsaved offers (to_all (Accept ballot 0 letter_value) ∷ [])
-unfolding pump
-submitted = rw entries_none refl
-
 -- a node votes for the value, and has this record then
 abbrev voting : Known → Record → Value → Response
 voting n kept v = record {
@@ -129,18 +113,15 @@ said =
     ∷ (2, to_all (Submit letter_value)) ∷ (2, to_all (Ask 0)) ∷ (1, to_all (Accept ballot 0 letter_value))
     ∷ (2, to_all (Accepted ballot 0 letter_value)) ∷ (3, to_all (Accepted ballot 0 letter_value)) ∷ []
 
-all_fit : All (FitsIn three_nodes) said
-all_fit = All-from_recursion (FitsIn three_nodes) said (grind (arith, own_keys))
-
 -- ---- the group after each entry
 
 module _ (steps : StepsLaw) (read : ReadLaw) where
   -- the message with a number
-  number : (sent k : ℕ) (m : Msg) → slice_get (map message_by (take sent said)) k ≡ Some m
-      → slice_get (messages_in three_nodes (map (datagram_by three_nodes) (take sent said))) k ≡ Some m
-  number = numbered read three_nodes (omega arith) said all_fit
+  number : AreNumbered three_nodes said
+  number = numbered read three_nodes (omega arith) said (grind (arith, own_keys))
 
   abbrev run : Ran (new_world echoes three_nodes) key_events
+  unfolding pump
   run =
       starts 1 0 refl refl
       ▸ starts 2 0 refl refl
@@ -148,11 +129,12 @@ module _ (steps : StepsLaw) (read : ReadLaw) where
       ▸ campaigns 1 (begun node_1) refl (prepares node_1 1) (campaigns_so node_1 1)
       ▸ hears 2 (begun node_2) refl 0 1 (Prepare ballot 0) (promising node_2) (number 1 0 _ refl) refl
       ▸ hears 3 (begun node_3) refl 0 1 (Prepare ballot 0) (promising node_3) (number 2 0 _ refl) refl
-      ▸ hears 1 (asking node_1 1) refl 1 2 (Promise ballot 0 65536 []) (quiet (leading half)) (number 3 1 _ refl) first_promise
-      ▸ hears 1 (leading half) refl 2 3 (Promise ballot 0 65536 []) (quiet (leading whole)) (number 3 2 _ refl) second_promise
+      ▸ hears 1 (asking node_1 1) refl 1 2 (Promise ballot 0 65536 []) (quiet (leading half)) (number 3 1 _ refl) refl
+      ▸ hears 1 (leading half) refl 2 3 (Promise ballot 0 65536 []) (quiet (leading whole)) (number 3 2 _ refl) refl
       ▸ presses 2 (promises node_2) refl 65 holds letter_value (omega arith) refl
       ▸ ticks 2 holds refl (unsaved holds (to_all (Submit letter_value) ∷ to_all (Ask 0) ∷ [])) (rw entries_none refl)
-      ▸ hears 1 (leading whole) refl 3 2 (Submit letter_value) _ (number 5 3 _ refl) submitted
+      ▸ hears 1 (leading whole) refl 3 2 (Submit letter_value) (unsaved offers (to_all (Accept ballot 0 letter_value) ∷ []))
+      (number 5 3 _ refl) (rw entries_none refl)
       ▸ hears 2 holds refl 5 1 (Accept ballot 0 letter_value) (voting holds voted_record letter_value)
       (number 6 5 _ refl) (rw entries_none refl)
       ▸ hears 3 (promises node_3) refl 5 1 (Accept ballot 0 letter_value) (voting (promises node_3) voted_record letter_value)
@@ -171,9 +153,8 @@ module _ (steps : StepsLaw) (read : ReadLaw) where
       × (map (λ m. m.kept) now ≡ promised_record ∷ voted_record ∷ voted_record ∷ [])
       × (map (λ m. m.console) now ≡ [] ∷ [] ∷ (65 ∷ []) ∷ [])
       × ((world_state (key_after now)).typed ≡ typed_letter ∷ []) × (length (key_after now).sent ≡ 8)
-  a_key_log =
-      let events = events_lead key_log (new_world echoes three_nodes) run.now key_events run.is_log run.are_events in
-      (run.now, run.is_log, run.are_events, events, has_learned _ refl refl, refl, refl, refl, refl)
+  unfolding pump
+  a_key_log = (run.now, run.is_log, run.are_events, leads_to run, has_learned _ refl refl, refl, refl, refl, refl)
 
 -- ---- one node alone
 
@@ -203,23 +184,6 @@ knowing = record voting_alone {
   first = 2;
 }
 
--- ---- its own calls
-
-hears_promise : on_message (asking me 2) 1 (Promise ballot 0 65536 []) ≡ quiet leading_alone
-unfolding pump
-hears_promise = refl
-
-submits_alone : on_tick holding ≡ unsaved holding (to_all (Submit letter_batch) ∷ to_all (Ask 0) ∷ [])
-unfolding pump
-submits_alone = rw entries_none refl
-
-hears_submit : on_message holding 1 (Submit letter_batch) ≡ unsaved offering_alone (to_all (Accept ballot 0 letter_batch) ∷ [])
-unfolding pump
-hears_submit = rw (entries_none, entries_none) refl
-
-hears_accepted : on_message voting_alone 1 (Accepted ballot 0 letter_batch) ≡ quiet knowing
-hears_accepted = simp (get-empty, entries_none, entries_one, get_here)
-
 -- ---- what it sends
 
 abbrev said_alone : List Said
@@ -227,18 +191,15 @@ said_alone =
     (1, to_all (Prepare ballot 0)) ∷ (1, to_one 1 (Promise ballot 0 65536 [])) ∷ (1, to_all (Submit letter_batch))
     ∷ (1, to_all (Ask 0)) ∷ (1, to_all (Accept ballot 0 letter_batch)) ∷ (1, to_all (Accepted ballot 0 letter_batch)) ∷ []
 
-all_fit_alone : All (FitsIn one) said_alone
-all_fit_alone = All-from_recursion (FitsIn one) said_alone (grind (arith, own_keys))
-
 -- ---- its own events
 
 module _ (steps : StepsLaw) (read : ReadLaw) where
   -- the message with a number
-  number_alone : (sent k : ℕ) (m : Msg) → slice_get (map message_by (take sent said_alone)) k ≡ Some m
-      → slice_get (messages_in one (map (datagram_by one) (take sent said_alone))) k ≡ Some m
-  number_alone = numbered read one (omega arith) said_alone all_fit_alone
+  number_alone : AreNumbered one said_alone
+  number_alone = numbered read one (omega arith) said_alone (grind (arith, own_keys))
 
   abbrev run_alone : Ran (new_world echoes one) shown_events
+  unfolding pump
   run_alone =
       fails 1 0 FailedOld (stopped (started_times 0)) refl
       (Fell, (refl, refl, record { answer = refl; left = refl; sends = refl; types = refl }))
@@ -248,13 +209,15 @@ module _ (steps : StepsLaw) (read : ReadLaw) where
       ▸ campaigns 1 (fresh me (started_times 2)) refl (prepares me 2) (campaigns_so me 2)
       ▸ hears 1 (asking me 2) refl 0 1 (Prepare ballot 0) (unsaved (asking me 2) (to_one 1 (Promise ballot 0 65536 []) ∷ []))
       (number_alone 1 0 _ refl) refl
-      ▸ hears 1 (asking me 2) refl 1 1 (Promise ballot 0 65536 []) (quiet leading_alone) (number_alone 2 1 _ refl) hears_promise
+      ▸ hears 1 (asking me 2) refl 1 1 (Promise ballot 0 65536 []) (quiet leading_alone) (number_alone 2 1 _ refl) refl
       ▸ presses 1 leading_alone refl 65 holding letter_batch (omega arith) refl
-      ▸ ticks 1 holding refl _ submits_alone
-      ▸ hears 1 holding refl 2 1 (Submit letter_batch) _ (number_alone 4 2 _ refl) hears_submit
+      ▸ ticks 1 holding refl (unsaved holding (to_all (Submit letter_batch) ∷ to_all (Ask 0) ∷ [])) (rw entries_none refl)
+      ▸ hears 1 holding refl 2 1 (Submit letter_batch) (unsaved offering_alone (to_all (Accept ballot 0 letter_batch) ∷ []))
+      (number_alone 4 2 _ refl) (rw (entries_none, entries_none) refl)
       ▸ hears 1 offering_alone refl 4 1 (Accept ballot 0 letter_batch) (voting offering_alone voted letter_batch)
       (number_alone 5 4 _ refl) (rw entries_none refl)
-      ▸ hears 1 voting_alone refl 5 1 (Accepted ballot 0 letter_batch) (quiet knowing) (number_alone 6 5 _ refl) hears_accepted
+      ▸ hears 1 voting_alone refl 5 1 (Accepted ballot 0 letter_batch) (quiet knowing) (number_alone 6 5 _ refl)
+      (simp (get-empty, entries_none, entries_one, get_here))
       ▸ runs 1 knowing (echoes_first 1 2) steps refl
       ▸ releases 1 knowing (echoes_first 1 2) refl
       ▸ stop
@@ -262,13 +225,8 @@ module _ (steps : StepsLaw) (read : ReadLaw) where
   pub may_show : (w : World) × LeadsBy (new_world echoes one) shown_events w
       × HasLearned (world_state w) 1 0 letter_batch × ((world_state w).typed ≡ letter ∷ [])
       × (((world_state w).seats 1).console ≡ 65 ∷ [])
-  may_show = (
-    _,
-    events_lead run_alone.log (new_world echoes one) run_alone.now shown_events run_alone.is_log run_alone.are_events,
-    has_learned _ refl refl,
-    refl,
-    refl,
-  )
+  unfolding pump
+  may_show = (_, leads_to run_alone, has_learned _ refl refl, refl, refl)
 
 -- ---- two consoles
 
@@ -276,31 +234,27 @@ module _ (steps : StepsLaw) (read : ReadLaw) where
 abbrev shows : ℕ → List Event
 shows i = kept_event (Start i) ∷ kept_event (Run i 10) ∷ kept_event (Release i) ∷ []
 
--- a group of three, in which two do so
-abbrev three : Group
-three = record { size = 3; session = 0 }
-
-abbrev both_show : StepsLaw → Ran (new_world letter_program three) (shows 1 ++ shows 2)
+-- two nodes of three do so
+abbrev both_show : StepsLaw → Ran (new_world letter_program three_nodes) (shows 1 ++ shows 2)
 both_show steps =
     starts 1 0 refl refl
-    ▸ runs 1 (begun (node_in three 1)) (writes_letter _) steps refl
-    ▸ releases 1 (begun (node_in three 1)) (writes_letter _) refl
+    ▸ runs 1 (begun node_1) (writes_letter _) steps refl
+    ▸ releases 1 (begun node_1) (writes_letter _) refl
     ▸ starts 2 0 refl refl
-    ▸ runs 2 (begun (node_in three 2)) (writes_letter _) steps refl
-    ▸ releases 2 (begun (node_in three 2)) (writes_letter _) refl
+    ▸ runs 2 (begun node_2) (writes_letter _) steps refl
+    ▸ releases 2 (begun node_2) (writes_letter _) refl
     ▸ stop
 
 pub bytes_are_possible : StepsLaw → (p : Parts) × (group : Group) × (events : List Event) × (w : World) × IsSize group.size × IsGroup group
     × LeadsBy (new_world p group) events w × (((world_state w).seats 1).console ≡ 65 ∷ []) × (((world_state w).seats 2).console ≡ 65 ∷ [])
-bytes_are_possible steps =
-    let run = both_show steps in (
-      letter_program,
-      three,
-      shows 1 ++ shows 2,
-      _,
-      record { odd = refl; few = omega arith },
-      omega arith,
-      events_lead run.log (new_world letter_program three) run.now (shows 1 ++ shows 2) run.is_log run.are_events,
-      refl,
-      refl,
-    )
+bytes_are_possible steps = (
+  letter_program,
+  three_nodes,
+  shows 1 ++ shows 2,
+  _,
+  record { odd = refl; few = omega arith },
+  omega arith,
+  leads_to (both_show steps),
+  refl,
+  refl,
+)

@@ -1,7 +1,7 @@
 -- A world as a group, after one of its nodes has changed.
 use Rattle.std.proofs.lemmas.Option.{slice_get-get_or, get_or_from_slice_get, slice_get_within}
 use Rattle.std.proofs.lemmas.List.{get_or-set_same, length-set, get_or-replicate, length-replicate}
-use Rattle.std.proofs.Common.{set, ◌≡◌, ◌≢◌, ◌∙◌, ℕ, zero, suc, ◌-◌, ◌<◌, All, List, [], ◌∷◌, ◌++◌, flat_map, length, slice_get, slice_set, replicate, None, Some, Ok, refl, sym, ap, arith}
+use Rattle.std.proofs.Common.{set, ◌≡◌, ◌≢◌, ◌∙◌, ℕ, zero, suc, ◌-◌, ◌<◌, All, List, [], ◌∷◌, ◌++◌, flat_map, slice_get, slice_set, replicate, None, Some, Ok, refl, sym, ap, arith}
 use Rattle.std.proofs.lemmas.Bool.Decides.{nat_tests}
 use Rattle.std.proofs.lemmas.Bool.{cases_eq}
 use Rattle.std.proofs.lemmas.Grind.{flat_map-append}
@@ -12,7 +12,7 @@ use Rattle.pcode_file.specs.Parts.{Parts}
 use Rattle.paxos_msg.specs.Records.{empty_record}
 use Rattle.paxos_msg.specs.declared.message.Group.{Group}
 use Rattle.paxos_msg.specs.declared.value.Value.{Value}
-use Rattle.paxos_msg.specs.Batches.{Msg, Record, Sent}
+use Rattle.paxos_msg.specs.Batches.{Msg, Record}
 use Rattle.paxos_msg.specs.Bodies.{IsBody}
 use Rattle.paxos_msg.specs.Fits.{IsNode, IsGroup}
 use Rattle.paxos_msg.specs.Keys.{keys_of}
@@ -24,24 +24,19 @@ use Rattle.group_protocol.specs.Known.{Response}
 use Rattle.group_node.specs.Output.{Progress}
 use Rattle.group_node.specs.States.{input}
 use Rattle.group_protocol.specs.Steps.{messages_handed_out}
-use Rattle.pcode_machine.specs.Runs.{after_steps, out}
+use Rattle.pcode_machine.specs.Runs.{after_steps}
 use Rattle.group_node.specs.World.{after_call, with_seat}
 use Rattle.group_world.specs.Group.{IsUp, me_of, member_at, messages_in, new_world, seat_of_member, with_member, World, world_state}
 use Rattle.group_world.proofs.CallLeaves.{is_at, world_after_call}
 use Rattle.group_world.specs.Member.{Member, member_after_call, Running}
-use Rattle.group_world.specs.Sound.{IsMemberSound, IsRunningSound, IsShown, IsSound, IsSpelling}
+use Rattle.group_world.specs.Sound.{IsMemberSound, IsRunningSound, IsSound, IsSpelling}
 
 -- ---- lists with one element changed
-
-set_there : {X : Type 0} (xs : List X) (k : ℕ) (x : X) → k < length xs → slice_get (slice_set xs k x) k ≡ Some x
-set_there xs k x low =
-    slice_get-get_or (set xs k x) k x (omega (arith, length-set xs k x)) ∙ ap (λ y. Some y) (get_or-set_same xs k x x low)
 
 set_elsewhere : {X : Type 0} (xs : List X) (k j : ℕ) (x : X) → j ≢ k → slice_get (slice_set xs k x) j ≡ slice_get xs j
 set_elsewhere [] k j x ne = refl
 set_elsewhere (y ∷ ys) zero j x ne = grind (arith, nat_tests)
-set_elsewhere (y ∷ ys) (suc k) zero x ne = refl
-set_elsewhere (y ∷ ys) (suc k) (suc j) x ne = set_elsewhere ys k j x (λ e. ne (ap suc e))
+set_elsewhere (y ∷ ys) (suc k) j x ne = grind (arith, nat_tests, set_elsewhere ys k (j - 1) x)
 
 -- ---- nodes by number
 
@@ -49,14 +44,12 @@ pub changed_here : (members : List Member) (i : ℕ) (m new : Member) → member
     → member_at (slice_set members (i - 1) new) i ≡ Some new
 changed_here members zero m new e = absurd cc
 changed_here members (suc k) m new e =
-    let same : suc k - 1 ≡ k = omega arith in rw same (set_there members k new (slice_get_within members k m e))
+    grind (arith, slice_get_within members k m e, slice_get-get_or (set members k new) k new, get_or-set_same members k new new, length-set)
 
 pub changed_elsewhere : (members : List Member) (i j : ℕ) (m new : Member) → member_at members i ≡ Some m → j ≢ i
     → member_at (slice_set members (i - 1) new) j ≡ member_at members j
-changed_elsewhere members i zero m new e ne = refl
-changed_elsewhere members zero (suc l) m new e ne = absurd cc
-changed_elsewhere members (suc k) (suc l) m new e ne =
-    let same : suc k - 1 ≡ k = omega arith in rw same (set_elsewhere members k l new (λ f. ne (ap suc f)))
+changed_elsewhere members i j m new e ne =
+    grind (arith, nat_tests, set_elsewhere members (i - 1) (j - 1) new)
 
 -- what holds of each node after node `i` has changed
 pub each_changed : (members : List Member) (i : ℕ) (m new : Member) → member_at members i ≡ Some m → (P : ℕ → Member → Type 0) → P i new
@@ -154,14 +147,6 @@ is_node {w} {m} i h e =
 -- a node that is down, and has shown nothing
 abbrev pub stopped : Record → Member
 stopped r = record { kept = r; console = []; node = None }
-
--- a console that has shown nothing has shown output
-pub nothing_shown : (p : Parts) (size : ℕ) (sent : Sent) → IsShown p size sent []
-nothing_shown p size sent = record {
-  values = [];
-  chosen = record { chosen = λ s v e. absurd cc };
-  output = (0, record { rest = out p _ 0; whole = refl });
-}
 
 -- each node of the world before all events
 pub first_node : (p : Parts) (group : Group) (i : ℕ) (m : Member) → member_at (new_world p group).members i ≡ Some m

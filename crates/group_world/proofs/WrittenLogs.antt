@@ -1,7 +1,8 @@
 -- Logs that are written down by hand with their events, entry by entry: what a node does that has
 -- heard nothing, what each entry leaves, and that the messages are read again which nodes have sent.
-use Rattle.std.proofs.Common.{◌≡◌, ◌∙◌, ℕ, ◌+◌, ◌<◌, All, List, [], ◌∷◌, map, slice_get, take, Option, None, Some, refl, sym, ap}
-use Rattle.std.proofs.lemmas.List.Elements.{All-head, All-tail, All-take}
+use Rattle.std.proofs.Common.{◌≡◌, ◌∙◌, ℕ, ◌+◌, ◌<◌, List, [], ◌∷◌, map, slice_get, take, None, Some, refl, ap, arith}
+use Rattle.std.proofs.lemmas.List.Elements.{All-from_recursion, All-take, recursion_from_All}
+use Rattle.std.specs.List.{AllByRecursion}
 use Rattle.std.specs.List.{cons_option}
 use Rattle.pcode_file.specs.Parts.{Parts}
 use Rattle.paxos_msg.specs.declared.message.Group.{Group}
@@ -20,17 +21,16 @@ use Rattle.group_world.specs.declared.event.Act.{Act}
 use Rattle.group_world.specs.declared.event.Done.TheVariants.{Applied}
 use Rattle.group_world.specs.declared.event.Event.{Event}
 use Rattle.group_world.specs.declared.event.Outcome.{Outcome}
-use Rattle.group_world.specs.declared.event.Outcome.TheVariants.{Kept}
-use Rattle.group_world.specs.Deeds.{DoesDeed, quietly, EndsCall, Left}
-use Rattle.group_world.specs.Event.{IsDeedOf, kept_event, node_of}
-use Rattle.group_world.specs.Group.{World, me_of, member_at, messages_in, message_of}
+use Rattle.group_world.specs.Deeds.{DoesDeed, EndsCall, Left}
+use Rattle.group_world.specs.Event.{IsDeedOf, LeadsBy, kept_event, node_of}
+use Rattle.group_world.specs.Group.{World, me_of, member_at, messages_in}
 use Rattle.group_world.specs.Member.{Makes, Member, call_of_campaign, call_of_press, member_after_call, member_after_release, call_of_start, NodeCall, RunsMember}
-use Rattle.group_world.specs.Processes.{AreEventsOf, DoesEntry, Entry, IsLog}
+use Rattle.group_world.specs.Processes.{after_log, AreEventsOf, DoesEntry, Entry, IsLog}
 use Rattle.group_world.specs.WrittenLogs.{entry_with, hear_entry, node_in, press_entry, quiet_entry, start_after, started_times, first_ballot}
 use Rattle.group_world.proofs.CallLeaves.{kept_call}
 use Rattle.group_world.proofs.SmallPrograms.{StepsLaw, WritesLetter, replays, runs as runs_on, ten_of, waits}
 use Rattle.group_world.proofs.HoldsAfterEvents.{heard_by}
-use Rattle.group_world.proofs.ProcessEvents.{log_before, moved, no_log}
+use Rattle.group_world.proofs.ProcessEvents.{events_lead, log_before, moved, no_log}
 use Rattle.group_world.proofs.WorldAsGroup.{ReadLaw, packet_read, stopped}
 use Rattle.paxos_msg.specs.declared.message.Body.TheVariants.{Ask, Prepare}
 use Rattle.paxos_acceptor.specs.declared.me.Me.{Me}
@@ -129,6 +129,10 @@ stop {w} = record { log = []; now = w.members; is_log = (no_log w w refl).0; are
 abbrev pub made : {w : World} {events : List Event} → (run : Ran w events) → (now : List Member) × IsLog w run.log now
 made run = (run.now, run.is_log)
 
+-- its events lead to its nodes
+pub leads_to : {w : World} {events : List Event} (run : Ran w events) → LeadsBy w events (after_log w run.log run.now)
+leads_to {w} {events} run = events_lead run.log w run.now events run.is_log run.are_events
+
 -- ---- the entries of a node
 
 -- a node whose machine has made ten steps, and one that has then released the letter
@@ -138,31 +142,20 @@ ran p n = up n (ten_of p) []
 abbrev pub shown : Parts → Known → Member
 shown p n = member_after_release (ran p n) (record { known = n; progress = ten_of p }) (Some 65)
 
--- a node starts
-abbrev pub Spare : Me → ℕ → Type 0
-Spare me n = call_of_start me (started_times n) ≡ Makes (on_start me (started_times n)) []
-
 module _ {w : World} (i : ℕ) where
   -- a start whose save fails, or is kept
   pub fails : (n : ℕ) (save : Outcome) (new : Member) → member_at w.members i ≡ Some (stopped (started_times n))
       → DoesEntry w.program (me_of w i) (stopped (started_times n)) (record (start_after (me_of w i) n) { save = save }) new
       → Enters w (record (start_after (me_of w i) n) { save = save }) (record { act = act.Start i; save = save }) new
-  fails n save new there does = record {
-    was = stopped (started_times n);
-    there = there;
-    does = does;
-    is_deed = (started_times n, refl);
-    at = refl;
-    saved = refl;
-  }
+  fails n save new there does =
+      grind arith
 
-  pub starts : (n : ℕ) → member_at w.members i ≡ Some (stopped (started_times n)) → Spare (me_of w i) n
+  pub starts : (n : ℕ) → member_at w.members i ≡ Some (stopped (started_times n))
+      → call_of_start (me_of w i) (started_times n) ≡ Makes (on_start (me_of w i) (started_times n)) []
       → Enters w (start_after (me_of w i) n) (kept_event (act.Start i))
       (up (fresh (me_of w i) (started_times (n + 1))) (no_progress w.program) [])
   starts n there spare =
-      let kept : Record = started_times n in
-      fails n Kept _ there
-      (Applied, (refl, refl, kept_call (me_of w i) (stopped kept) (no_progress w.program) _ (on_start (me_of w i) kept) [] spare))
+      grind arith
 
   module _ {progress : Progress} {console : List ℕ} (n : Known) (there : member_at w.members i ≡ Some (up n progress console)) where
     -- a deed whose save, if it makes one, is kept
@@ -171,7 +164,7 @@ module _ {w : World} (i : ℕ) where
         → IsDeedOf (messages_in w.group w.sent) a d → node_of a ≡ i
         → Enters w (record (entry_with (me_of w i) d packets) { typed = typed }) (kept_event a) new
     acts d a packets typed new does is_deed at =
-        record { was = up n progress console; there = there; does = does; is_deed = is_deed; at = at; saved = refl }
+        grind arith
 
     -- a call
     calls : (d : Deed) (a : Act) (call : NodeCall) (made : Response) (typed : List Value) → call ≡ Makes made typed
@@ -210,18 +203,14 @@ module _ {w : World} (i : ℕ) where
     pub runs : StepsLaw → member_at w.members i ≡ Some (up n (no_progress w.program) [])
         → Enters w (quiet_entry (me_of w i) (deed.Run 10)) (kept_event (act.Run i 10)) (ran w.program n)
     runs steps there =
-        let p : Parts = w.program in
-        let run : RunsMember (up n (no_progress p) []) (record { known = n; progress = no_progress p }) 10 (ran p n) =
+        let run : RunsMember _ _ 10 (ran w.program n) =
         record { progress = ten_of w.program; ran = more.More; runs = runs_on h steps; replay = replays h; new_is = refl } in
         acts n there (deed.Run 10) (act.Run i 10) [] [] (ran w.program n) (Applied, (_, refl, run, refl)) refl refl
 
     pub releases : member_at w.members i ≡ Some (ran w.program n)
         → Enters w (quiet_entry (me_of w i) deed.Release) (kept_event (act.Release i)) (shown w.program n)
     releases there =
-        let left =
-        λ (o : Option ℕ). quietly (member_after_release (ran w.program n) (record { known = n; progress = ten_of w.program }) o) in
-        acts n there deed.Release (act.Release i) [] [] (shown w.program n)
-        (Applied, (_, refl, ap left (ap (λ bytes. slice_get bytes 0) (sym (waits h))))) refl refl
+        acts n there deed.Release (act.Release i) [] [] (shown w.program n) (Applied, (_, refl, rw (waits h) refl)) refl refl
 
 -- ---- what is sent
 
@@ -238,18 +227,21 @@ message_by x = record { sender = x.0; body = x.1.body }
 abbrev pub FitsIn : Group → Said → Type 0
 FitsIn group x = IsNode group.size x.0 × IsBody group.size x.0 x.1.body
 
+-- of those sent first, the message with a number is read as it was sent
+abbrev pub AreNumbered : Group → List Said → Type 0
+AreNumbered group said =
+    (sent k : ℕ) (m : Msg) → slice_get (map message_by (take sent said)) k ≡ Some m
+    → slice_get (messages_in group (map (datagram_by group) (take sent said))) k ≡ Some m
+
 module _ (read : ReadLaw) (group : Group) (session : IsGroup group) where
   -- each datagram is read as its message
-  pub reads : (xs : List Said) → All (FitsIn group) xs → messages_in group (map (datagram_by group) xs) ≡ map message_by xs
+  pub reads : (xs : List Said) → AllByRecursion (FitsIn group) xs → messages_in group (map (datagram_by group) xs) ≡ map message_by xs
   reads [] fits = refl
-  reads (x ∷ xs) fits =
-      let (node, body) = All-head (FitsIn group) x xs fits in
+  reads (x ∷ xs) ((node, body), fits) =
       let first = packet_read read (node_in group x.0) session node x.1 body in
-      let is : message_of group (datagram_by group x) ≡ Some (message_by x) = first.0.read ∙ ap Some first.1 in
-      λ t. cons_option (is t) (reads xs (All-tail (FitsIn group) x xs fits) t)
+      λ t. cons_option ((first.0.read ∙ ap Some first.1) t) (reads xs fits t)
 
-  -- the message with a number, of those sent first
-  pub numbered : (said : List Said) → All (FitsIn group) said → (sent k : ℕ) (m : Msg)
-      → slice_get (map message_by (take sent said)) k ≡ Some m
-      → slice_get (messages_in group (map (datagram_by group) (take sent said))) k ≡ Some m
-  numbered said fits sent k m is = ap (λ ms. slice_get ms k) (reads (take sent said) (All-take (FitsIn group) sent said fits)) ∙ is
+  pub numbered : (said : List Said) → AllByRecursion (FitsIn group) said → AreNumbered group said
+  numbered said fits sent k m is =
+      let first = recursion_from_All (FitsIn group) _ (All-take (FitsIn group) sent said (All-from_recursion _ said fits)) in
+      ap (λ ms. slice_get ms k) (reads (take sent said) first) ∙ is

@@ -3,20 +3,20 @@
 -- `wrong_worlds` and `wrong_orders`.
 use Rattle.std.proofs.lemmas.Bool.{cases_eq}
 use Rattle.std.proofs.lemmas.Bool.Decides.{nat_tests}
-use Rattle.std.proofs.Common.{◌≤◌, inl, inr, ◌==◌, ◌≡◌, ◌∙◌, ◌+◌, ℕ, zero, suc, Bool, true, false, List, [], ◌∷◌, ◌++◌, length, length-append, if◌then◌else◌, refl, sym, ap, arith, lit<}
+use Rattle.std.proofs.Common.{◌≤◌, inl, inr, ◌≡◌, ◌∙◌, ◌+◌, ℕ, zero, suc, List, [], ◌∷◌, ◌++◌, length, length-append, refl, ap, arith, lit<}
 use Rattle.pcode_file.specs.Parts.{Parts}
 use Rattle.pcode_ops.specs.Decoding.{instr_of}
 use Rattle.pcode_machine.specs.Configuration.{Configuration}
 use Rattle.pcode_machine.specs.declared.turn.End.TheVariants as ends
 use Rattle.pcode_machine.specs.Transition.{Stops, transition}
-use Rattle.pcode_machine.specs.Runs.{IsOutput, IsPrefix, after_steps, led, out}
+use Rattle.pcode_machine.specs.Runs.{IsPrefix, after_steps, led, out}
 use Rattle.paxos_msg.specs.declared.value.Value.{Value}
 use Rattle.paxos_msg.specs.declared.value.Value.TheVariants.{Keys, Noop}
 use Rattle.paxos_msg.specs.Batches.{Sent}
 use Rattle.paxos_msg.specs.Chosen.{IsChosen}
 use Rattle.paxos_learner.specs.Input.{keys_in_order}
 use Rattle.group_node.specs.Inputs.{AreChosen, IsInput}
-use Rattle.group_node.specs.WrongSteps.{ballot_by, kept_third, ninth_key, no_code, seat_down, up_written}
+use Rattle.group_node.specs.WrongSteps.{ballot_by, ninth_key, no_code, up_written}
 use Rattle.group_protocol.proofs.Elements.{none_in}
 use Rattle.group_world.specs.Headline.{ConsolesAgree, ConsolesGrow, ConsolesHoldOutput, HasNoGap, LearnedAgree, LearnedChosen, LearnedStays}
 use Rattle.group_world.specs.Order.{AreApart, AreInOrder, KeysOnce, SerialsInOrder}
@@ -87,7 +87,7 @@ no_majority h = none_chosen not_chosen.sent (λ round. grind (arith, nat_tests))
 stays : (p : Parts) (x : List ℕ) (k : ℕ) → led (after_steps p x k) (transition p x (after_steps p x k)) ≡ after_steps p x k
     → (n : ℕ) → k ≤ n → after_steps p x n ≡ after_steps p x k
 unfolding after_steps
-stays p x k over zero from = let none : 0 ≡ k = omega arith in ap (after_steps p x) none
+stays p x k over zero from = grind arith
 stays p x k over (suc n) from = elim (cases_eq (suc n) k) [
   | inl last ↦ ap (after_steps p x) last
   | inr more ↦ ap (λ (c : Configuration). led c (transition p x c)) (stays p x k over n (omega arith)) ∙ over
@@ -97,10 +97,7 @@ pub record OutputLaws : Type 0 where
   pub there : (size : ℕ) (sent : Sent) → (x : List ℕ) × IsInput size sent x
   pub steps : (p : Parts) (x : List ℕ) (m n : ℕ) → m ≤ n → IsPrefix (out p x m) (out p x n)
 
--- after ten steps the program has written the letter, and it ends
-ten_steps : (x : List ℕ) → out letter_program x 10 ≡ 65 ∷ []
-ten_steps x = (writes_letter x).writes
-
+-- after ten steps, in which it writes the letter, the program ends
 ended : (x : List ℕ) → transition letter_program x (after_steps letter_program x 10) ≡ Stops ends.Normal
 unfolding after_steps instr_of
 ended x = refl
@@ -109,9 +106,8 @@ one_letter : OutputLaws → (x : List ℕ) (n : ℕ) → length (out letter_prog
 one_letter laws x n =
     let longer = laws.steps letter_program x n (10 + n) (omega arith) in
     let last = stays letter_program x 10 (ap (led (after_steps letter_program x 10)) (ended x)) (10 + n) (omega arith) in
-    let single = written_by letter_program x (10 + n) ∙ ap (λ (c : Configuration). c.output) last
-    ∙ sym (written_by letter_program x 10) ∙ ten_steps x in
-    omega (arith, ap length (sym single ∙ longer.whole), length-append (out letter_program x n) longer.rest)
+    let parts = length-append (out letter_program x n) longer.rest in
+    grind (arith, written_by letter_program x, last, (writes_letter x).writes, longer.whole, parts)
 
 pub byte_too_many : OutputLaws → ¬ ConsolesHoldOutput (letters_shown (65 ∷ 66 ∷ []))
 byte_too_many laws h =
@@ -120,34 +116,19 @@ byte_too_many laws h =
     omega (arith, ap length begins.whole, length-append (65 ∷ 66 ∷ []) begins.rest, one_letter laws x n)
 
 -- the program without code never writes
-silent_output : (x : List ℕ) (n : ℕ) → out silent x n ≡ []
+pub never_written : ((size : ℕ) (sent : Sent) → (x : List ℕ) × IsInput size sent x) → ¬ ConsolesHoldOutput wrong_console
 unfolding after_steps
-silent_output x n =
-    written_by silent x n ∙ ap (λ (c : Configuration). c.output) (stays silent x 0 refl n (omega arith))
-
--- each group has an input
-pub record InputLaw : Type 0 where
-  pub there : (size : ℕ) (sent : Sent) → (x : List ℕ) × IsInput size sent x
-
-pub never_written : InputLaw → ¬ ConsolesHoldOutput wrong_console
-never_written laws h =
-    let (x, input) = laws.there 5 [] in
+never_written there h =
+    let (x, input) = there 5 [] in
     let (n, begins) = h x 2 input in
-    grind (arith, silent_output x n, begins.whole)
+    grind (arith, written_by silent x n, stays silent x 0 refl n (omega arith), begins.whole)
 
 -- a console that shows the letter, or nothing, holds output
 pub one_byte : ConsolesHoldOutput (letters_shown (65 ∷ []))
-one_byte x i input = holds (i == 9) (i == 7) (i == 6)
-  where
-    none : IsOutput letter_program x []
-    none = (10, record { rest = out letter_program x 10; whole = refl })
-
-    holds : (a b c : Bool)
-        → IsOutput letter_program x (if a then seat_down kept_third (65 ∷ []) else (if b then bare else (if c then bare else bare))).console
-    holds true b c = (10, record { rest = []; whole = ten_steps x })
-    holds false true c = none
-    holds false false true = none
-    holds false false false = none
+one_byte x i input = elim (cases_eq i 9) [
+  | inl ninth ↦ (10, record { rest = []; whole = grind (arith, (writes_letter x).writes) })
+  | inr other ↦ (10, record { rest = out letter_program x 10; whole = grind (arith, nat_tests) })
+]
 
 -- ---- consoles that differ, or that lose a byte
 
@@ -201,19 +182,16 @@ three_chosen a b c =
 
 pub serial_twice : ¬ KeysOnce (chosen_three (third_keys 39 (64 ∷ [])) (third_keys 40 (65 ∷ [])) (third_keys 40 (66 ∷ [])))
 serial_twice h =
-    h (third_keys 39 (64 ∷ []) ∷ third_keys 40 (65 ∷ []) ∷ third_keys 40 (66 ∷ []) ∷ []) (three_chosen _ _ _) 1 2
-    (ninth_key 40 65) (omega arith) (omega arith) (record { node = refl; start = refl; serial = refl })
+    h _ (three_chosen _ _ _) 1 2 (ninth_key 40 65) (omega arith) (omega arith) (record { node = refl; start = refl; serial = refl })
 
 pub fortieth_first : ¬ SerialsInOrder (chosen_three seventh_key (third_keys 40 (65 ∷ [])) Noop)
-fortieth_first h = not_row (λ e. grind arith) (h (seventh_key ∷ third_keys 40 (65 ∷ []) ∷ Noop ∷ []) (three_chosen _ _ _) 9 3)
+fortieth_first h = not_row (λ e. grind arith) (h _ (three_chosen _ _ _) 9 3)
 
 pub second_first : ¬ SerialsInOrder (chosen_three (third_keys 2 (66 ∷ [])) seventh_key (third_keys 1 (65 ∷ [])))
-second_first h =
-    not_row (λ e. grind arith) (h (third_keys 2 (66 ∷ []) ∷ seventh_key ∷ third_keys 1 (65 ∷ []) ∷ []) (three_chosen _ _ _) 9 3)
+second_first h = not_row (λ e. grind arith) (h _ (three_chosen _ _ _) 9 3)
 
 pub third_missing : ¬ SerialsInOrder (chosen_three (third_keys 1 (65 ∷ 66 ∷ [])) seventh_key (third_keys 4 (68 ∷ [])))
-third_missing h =
-    not_row (λ e. grind arith) (h (third_keys 1 (65 ∷ 66 ∷ []) ∷ seventh_key ∷ third_keys 4 (68 ∷ []) ∷ []) (three_chosen _ _ _) 9 3)
+third_missing h = not_row (λ e. grind arith) (h _ (three_chosen _ _ _) 9 3)
 
 two_chosen : (v u : Value) → AreChosen 5 (chosen 0 v ++ chosen 1 u) (v ∷ u ∷ [])
 two_chosen v u =
@@ -224,10 +202,10 @@ two_chosen v u =
     )
 
 pub key_twice : ¬ KeysOnce (chosen_two (key 1 65) (key 1 66))
-key_twice h = twice (h (key 1 65 ∷ key 1 66 ∷ []) (two_chosen (key 1 65) (key 1 66)))
+key_twice h = twice (h _ (two_chosen _ _))
 
 pub second_early : ¬ SerialsInOrder (chosen_two (key 2 66) (key 1 65))
-second_early h = early (h (key 2 66 ∷ key 1 65 ∷ []) (two_chosen (key 2 66) (key 1 65)))
+second_early h = early (h _ (two_chosen _ _))
 
 pub second_left_out : ¬ SerialsInOrder (chosen_two (key 1 65) (key 3 67))
-second_left_out h = gap (h (key 1 65 ∷ key 3 67 ∷ []) (two_chosen (key 1 65) (key 3 67)))
+second_left_out h = gap (h _ (two_chosen _ _))

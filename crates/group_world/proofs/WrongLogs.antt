@@ -1,37 +1,32 @@
 -- Logs written down by hand that are no logs, and the same with one thing mended, for the laws
 -- `wrong_logs`, `wrong_times` and `wrong_events`.
-use Rattle.std.proofs.Common.{◌≡◌, ◌∙◌, ℕ, suc, slice_get, ◌<◌, ◌≤◌, Contains, List, [], ◌∷◌, ◌++◌, length, None, Some, refl, sym, ap, subst, arith}
-use Rattle.std.proofs.lemmas.Option.{same_Some, slice_get_within}
+use Rattle.std.proofs.Common.{◌≡◌, ℕ, slice_get, ◌<◌, List, [], ◌∷◌, None, Some, refl, ap, subst, arith}
+use Rattle.std.proofs.lemmas.Option.{slice_get_within}
 use Rattle.pcode_file.specs.Parts.{Parts}
 use Rattle.paxos_msg.specs.declared.message.Body.TheVariants.{Ask, Prepare}
 use Rattle.paxos_msg.specs.declared.message.Group.{Group}
-use Rattle.paxos_msg.specs.declared.value.Value.TheVariants.{Keys}
 use Rattle.group_world.specs.declared.event.Done.TheVariants.{Applied, Fell}
-use Rattle.group_world.specs.declared.event.Event.{Event}
-use Rattle.group_world.specs.declared.event.Outcome.TheVariants.{FailedNew, FailedOld, Kept}
+use Rattle.group_world.specs.declared.event.Outcome.TheVariants.{FailedNew, Kept}
 use Rattle.group_world.specs.Deeds.{Left}
-use Rattle.std.proofs.lemmas.List.{append-nil}
 use Rattle.paxos_msg.specs.Batches.{Msg}
 use Rattle.paxos_acceptor.specs.declared.me.Me.{Me}
-use Rattle.group_node.specs.Deeds.{Crash, Idle, Release, Run, Tick}
+use Rattle.group_node.specs.Deeds.{Crash, Release, Run}
 use Rattle.group_node.specs.declared.player.Ran.TheVariants as ran
 use Rattle.group_protocol.specs.Known.{Known}
 use Rattle.group_node.specs.Output.{IsReplay, no_progress}
 use Rattle.group_node.specs.States.{input}
-use Rattle.group_protocol.specs.Packets.{Datagram, Packet, datagrams_of, to_all}
-use Rattle.group_protocol.specs.Tick.{on_tick}
+use Rattle.group_protocol.specs.Packets.{to_all}
 use Rattle.group_world.specs.Group.{World, me_of, member_at, messages_in, new_world}
-use Rattle.group_world.specs.Member.{IsMemberUp, Makes, Member, Running, RunsMember, call_outcome, call_of_press, sent_by, typed_by}
-use Rattle.group_world.specs.Processes.{AreEventsOf, AreEventsOfEntry, DoesEntry, Entry, IsLog}
-use Rattle.group_world.specs.Timed.{AllHearEarlier, IsByTime, Timed}
-use Rattle.group_world.specs.WrittenLogs.{IsNoLog, IsSomeLog, entry_with, first_ballot, five_nodes, nine_nodes, node_in, quiet_entry, start_after, started_times, three_nodes}
+use Rattle.group_world.specs.Member.{IsMemberUp, Member, RunsMember}
+use Rattle.group_world.specs.Processes.{AreEventsOf, DoesEntry, Entry, IsLog}
+use Rattle.group_world.specs.Timed.{AllHearEarlier}
+use Rattle.group_world.specs.WrittenLogs.{IsNoLog, IsSomeLog, first_ballot, five_nodes, nine_nodes, node_in, quiet_entry, start_after, started_times, three_nodes}
 use Rattle.group_world.specs.WrongLogs.{IsOnlyOfUp, answers, campaigning, asks_all, crashes, deliver_event, failed_and_starts_over, heard_at, hears_ask_from, idle_sends, idle_types, nodes_down, only_start, press_event, press_types, presses, releasing, run_sends, starts_again_over, starts_twice, tick_sends, ticks, two_start}
 use Rattle.group_world.proofs.ProcessEvents.{log_before, log_first, moved, no_log}
 use Rattle.group_world.proofs.WorldAsGroup.{ReadLaw, changed_here, stopped}
-use Rattle.group_world.proofs.WrittenLogs.{◌▸◌, FitsIn, Said, acts, campaigns, campaigns_so, crashes as falls, fails, fresh, hears, made, presses as takes, reads, starts, stop, tells_so, ticks as sends, ticks_so, up}
-use Rattle.group_protocol.proofs.Elements.{each_of, first_in, none_in, only_in}
+use Rattle.group_world.proofs.WrittenLogs.{◌▸◌, acts, campaigns, campaigns_so, crashes as falls, fails, fresh, hears, made, presses as takes, reads, starts, stop, tells_so, ticks as sends, ticks_so, up}
+use Rattle.group_protocol.proofs.Elements.{first_in, none_in}
 use Rattle.group_world.specs.declared.event.Act.TheVariants as act
-use Rattle.std.proofs.lemmas.List.Elements.{All-from_recursion}
 
 -- ---- nodes that are up and down
 
@@ -43,17 +38,16 @@ abbrev started : World → ℕ → World
 started w i = moved w (start_after (me_of w i) 0) (first_up w.program (me_of w i))
 
 -- an entry after the first start of its node
-second : (group : Group) (i : ℕ) {p : Parts} {now : List Member} (e : Entry) {log : List Entry}
-    → IsLog (new_world p group) (start_after (node_in group i) 0 ∷ e ∷ log) now → e.node ≡ i
-    → member_at (new_world p group).members i ≡ Some (stopped (started_times 0))
-    → (new : Member) × DoesEntry p (node_in group e.node) (first_up p (node_in group i)) e new
-    × IsLog (moved (started (new_world p group) i) e new) log now
-second group i {p} {now} e {log} h own there =
+second : (group : Group) {p : Parts} {now : List Member} (e : Entry) {log : List Entry}
+    → IsLog (new_world p group) (start_after (node_in group e.node) 0 ∷ e ∷ log) now
+    → member_at (new_world p group).members e.node ≡ Some (stopped (started_times 0))
+    → (new : Member) × DoesEntry p (node_in group e.node) (first_up p (node_in group e.node)) e new
+    × IsLog (moved (started (new_world p group) e.node) e new) log now
+second group {p} {now} e {log} h there =
     let w : World = new_world p group in
-    let up_there = changed_here w.members i _ (first_up p (node_in group i)) there in
-    let (new, does, rest) = log_first w (start_after (me_of w i) 0) (e ∷ log) now (stopped (started_times 0)) there h in
-    log_first (started w i) e log now (first_up p (node_in group i)) (rw own up_there)
-    (subst (λ m. IsLog (moved w (start_after (me_of w i) 0) m) (e ∷ log) now) does.1.2.left rest)
+    let u : Member = first_up p (node_in group e.node) in
+    let (new, does, rest) = log_first w (start_after (me_of w e.node) 0) (e ∷ log) now (stopped (started_times 0)) there h in
+    log_first (started w e.node) e log now u (changed_here w.members e.node _ u there) (rw does.1.2.left at rest)
 
 -- an entry of a node that has to be up, which is one right after a start
 module _ (group : Group) (e : Entry) (there : (p : Parts) → member_at (new_world p group).members e.node ≡ Some (stopped (started_times 0)))
@@ -74,7 +68,7 @@ module _ (group : Group) (e : Entry) (there : (p : Parts) → member_at (new_wor
           let w : World = new_world p group in
           let u : Member = first_up p (node_in group e.node) in
           let crash : Entry = quiet_entry (node_in group e.node) Crash in
-          let (down, does, rest) = second group e.node crash h refl (there p) in
+          let (down, does, rest) = second group crash h (there p) in
           let down_there = changed_here (started w e.node).members e.node u down (changed_here w.members e.node _ u (there p)) in
           not_when_down p (moved (started w e.node) crash down) now down refl refl down_there
           (ap (λ (x : Left). x.member.node) does.1.2) rest
@@ -106,8 +100,7 @@ crashes_only_up =
 
 pub not_twice : IsNoLog nine_nodes starts_twice
 not_twice p now h =
-    let (new, does, more) = second nine_nodes 8 _ h refl refl in
-    grind (arith, does.1.0)
+    grind (arith, second nine_nodes _ h refl)
 
 -- ---- messages
 
@@ -124,11 +117,7 @@ asked_from place = record { sender = 8; body = Ask place }
 module _ (read : ReadLaw) where
   asks_read : messages_in five_nodes campaigning.sent ≡ prepared ∷ []
   asks_read =
-      let said : List Said = (2, to_all (Prepare (first_ballot 2) 0)) ∷ [] in
-      reads read five_nodes (omega arith) said (All-from_recursion (FitsIn five_nodes) said (search arith))
-
-  heard_after : Contains (messages_in five_nodes campaigning.sent) prepared
-  heard_after = subst (λ ms. Contains ms prepared) (sym asks_read) (first_in prepared [])
+      reads read five_nodes (omega arith) ((2, to_all (Prepare (first_ballot 2) 0)) ∷ []) (search arith)
 
   first_message : slice_get (messages_in five_nodes campaigning.sent) 0 ≡ Some prepared
   first_message = ap (λ ms. slice_get ms 0) asks_read
@@ -144,13 +133,11 @@ module _ (read : ReadLaw) where
   -- what node 8 asked
   ask_read : messages_in nine_nodes asks_all.sent ≡ asked_from 0 ∷ []
   ask_read =
-      let said : List Said = (8, to_all (Ask 0)) ∷ [] in
-      reads read nine_nodes (omega arith) said (All-from_recursion (FitsIn nine_nodes) said (search arith))
+      reads read nine_nodes (omega arith) ((8, to_all (Ask 0)) ∷ []) (search arith)
 
   pub nobody_sent : IsNoLog nine_nodes (hears_ask_from 4)
   nobody_sent p now h =
-      let heard : Contains (messages_in nine_nodes asks_all.sent) (asked_from 4) = h.carried.1.1.1.0 in
-      grind (arith, only_in (asked_from 0) (asked_from 4) (subst (λ ms. Contains ms (asked_from 4)) ask_read heard))
+      grind (arith, ask_read)
 
   pub somebody_sent : IsSomeLog nine_nodes (hears_ask_from 0)
   somebody_sent p =
@@ -164,29 +151,14 @@ module _ (read : ReadLaw) where
 
   pub is_later : (time : ℕ) → 5 < time → AllHearEarlier five_nodes (heard_at time) (heard_at time)
   is_later time later =
-      let first : Timed = record { entry = campaigning; time = 5 } in
-      (tt, ((first, first_in first (record { entry = answers; time = time } ∷ []), later, heard_after), tt))
-
-pub is_not_later : (time : ℕ) → time ≤ 5 → ¬ AllHearEarlier five_nodes (heard_at time) (heard_at time)
-is_not_later time low h =
-    let (y, there, earlier, said) = h.1.0 in
-    let Time : Timed → Type 0 = λ x. time ≤ x.time in
-    omega (arith, each_of Time (heard_at time) y (low, (omega arith, tt)) there)
-
-pub is_in_order : (time : ℕ) → 5 ≤ time → IsByTime (heard_at time)
-is_in_order time low = ((low, tt), (tt, tt))
-
-pub is_out_of_order : (time : ℕ) → time < 5 → ¬ IsByTime (heard_at time)
-is_out_of_order time low h = let least = h.0.0 in omega arith
+      (tt, ((record { entry = campaigning; time = 5 }, first_in _ (_ ∷ []), later, rw asks_read (first_in prepared [])), tt))
 
 -- ---- records
 
 pub not_older : IsNoLog nine_nodes (starts_again_over 0)
 not_older p now h =
-    let me = node_in nine_nodes 5 in
-    let (down, crashed, more) = second nine_nodes 5 (quiet_entry me Crash) h refl refl in
-    let (new, does, last) =
-    log_first (moved (started (new_world p nine_nodes) 5) (quiet_entry me Crash) down) (start_after me 0) [] now down refl more in
+    let (down, crashed, more) = second nine_nodes _ h refl in
+    let (new, does, last) = log_first _ _ _ _ down refl more in
     grind (arith, does.1.1, crashed.1.2)
 
 pub its_own : IsSomeLog nine_nodes (starts_again_over 1)
@@ -194,11 +166,8 @@ its_own p = made (starts 5 0 refl refl ▸ falls 5 (fresh (node_in nine_nodes 5)
 
 pub not_before_failure : IsNoLog nine_nodes (failed_and_starts_over 0)
 not_before_failure p now h =
-    let w : World = new_world p nine_nodes in
-    let me = node_in nine_nodes 5 in
-    let fails : Entry = record (start_after me 0) { save = FailedNew } in
-    let (down, failed, more) = log_first w fails (start_after me 0 ∷ []) now (stopped (started_times 0)) refl h in
-    let (new, does, last) = log_first (moved w fails down) (start_after me 0) [] now down refl more in
+    let (down, failed, more) = log_first _ _ _ _ (stopped (started_times 0)) refl h in
+    let (new, does, last) = log_first _ _ _ _ down refl more in
     grind (arith, does.1.1, failed.1.2.left)
 
 pub after_failure : IsSomeLog nine_nodes (failed_and_starts_over 1)
@@ -210,19 +179,11 @@ after_failure p =
 
 -- ---- nodes of a group
 
--- a node past the last
-past_last : (p : Parts) (group : Group) (k : ℕ) (e : Entry) (now : List Member) → e.node ≡ suc k → length (new_world p group).members ≤ k
-    → ¬ IsLog (new_world p group) (e ∷ []) now
-past_last p group k e now is past h =
-    let (m, there) = h.among.0 in
-    let there_so : slice_get now k ≡ Some m = subst (λ i. member_at now i ≡ Some m) is there in
-    omega (arith, slice_get_within now k m there_so, h.places)
-
 pub no_fourth : IsNoLog three_nodes (only_start three_nodes 4)
-no_fourth p now = past_last p three_nodes 3 (start_after (node_in three_nodes 4) 0) now refl (omega arith)
+no_fourth p now h = grind (arith, slice_get_within)
 
 pub no_tenth : IsNoLog nine_nodes (only_start nine_nodes 10)
-no_tenth p now = past_last p nine_nodes 9 (start_after (node_in nine_nodes 10) 0) now refl (omega arith)
+no_tenth p now h = grind (arith, slice_get_within)
 
 pub no_zero : IsNoLog five_nodes (only_start five_nodes 0)
 no_zero p now h = let none = h.among.0.1 in absurd cc
@@ -234,13 +195,11 @@ a_third p = made (starts 3 0 refl refl ▸ stop)
 
 pub sends_none : IsNoLog five_nodes (idle_sends (to_all (Ask 0) ∷ []))
 sends_none p now h =
-    let (new, does, rest) = log_first (new_world p five_nodes) _ [] now (stopped (started_times 0)) refl h in
-    grind (arith, does.1)
+    grind (arith, log_first _ _ _ _ (stopped (started_times 0)) refl h)
 
 pub types_none : IsNoLog five_nodes idle_types
 types_none p now h =
-    let (new, does, rest) = log_first (new_world p five_nodes) _ [] now (stopped (started_times 0)) refl h in
-    grind (arith, does.1)
+    grind (arith, log_first _ _ _ _ (stopped (started_times 0)) refl h)
 
 pub does_nothing : IsSomeLog five_nodes (idle_sends [])
 does_nothing p =
@@ -249,15 +208,13 @@ does_nothing p =
 
 pub run_sends_none : IsNoLog five_nodes (run_sends (to_all (Ask 0) ∷ []))
 run_sends_none p now h =
-    let (new, does, more) = second five_nodes 5 _ h refl refl in
-    grind (arith, does.1.3)
+    grind (arith, second five_nodes _ h refl)
 
 -- each machine may make no step
 pub runs_on : ((p : Parts) (x : List ℕ) → IsReplay x (no_progress p)) → IsSomeLog five_nodes (run_sends [])
 runs_on begins p =
-    let me = node_in five_nodes 5 in
-    let n : Known = fresh me (started_times 1) in
-    let run : RunsMember (first_up p me) (record { known = n; progress = no_progress p }) 0 (first_up p me) =
+    let n : Known = fresh (node_in five_nodes 5) (started_times 1) in
+    let run : RunsMember (up n (no_progress p) []) (record { known = n; progress = no_progress p }) 0 (up n (no_progress p) []) =
     record {
       progress = no_progress p;
       ran = ran.More;
@@ -268,34 +225,21 @@ runs_on begins p =
     made (starts 5 0 refl refl ▸ acts 5 n refl (Run 0) (act.Run 5 0) [] [] _ (Applied, (_, refl, run, refl)) refl refl ▸ stop)
 
 -- a tick sends one datagram
-one_is_sent : (p : Parts) (now : List Member) (packets : List Packet) → IsLog (new_world p nine_nodes) (tick_sends packets) now
-    → (d : Datagram) × (datagrams_of (node_in nine_nodes 7) packets ≡ d ∷ [])
-one_is_sent p now packets h =
-    let me = node_in nine_nodes 7 in
-    let (new, (d, (q, is, ends)), more) = second nine_nodes 7 (entry_with me Tick packets) h refl refl in
-    let Sends : Running → Type 0 =
-    λ x. datagrams_of me packets ≡ sent_by me (call_outcome None (started_times 1) (Makes (on_tick x.known) [])) in
-    (_, subst Sends (sym (same_Some _ q is)) ends.sends)
-
 pub sends_some : IsNoLog nine_nodes (tick_sends [])
-sends_some p now h = let length_is = ap length (one_is_sent p now [] h).1 in omega arith
+sends_some p now h =
+    grind (arith, second nine_nodes _ h refl)
 
 pub sends_once : IsNoLog nine_nodes (tick_sends (to_all (Ask 0) ∷ to_all (Ask 0) ∷ []))
 sends_once p now h =
-    let length_is = ap length (one_is_sent p now (to_all (Ask 0) ∷ to_all (Ask 0) ∷ []) h).1 in
-    omega arith
+    grind (arith, second nine_nodes _ h refl)
 
 pub no_256 : IsNoLog nine_nodes (press_types 256 1)
 no_256 p now h =
-    let (new, does, more) = second nine_nodes 9 _ h refl refl in
-    omega (arith, does.1.2)
+    grind (arith, second nine_nodes _ h refl)
 
 pub first_is_one : IsNoLog nine_nodes (press_types 255 2)
 first_is_one p now h =
-    let (new, (d, (q, is, low, ends)), more) = second nine_nodes 9 _ h refl refl in
-    let Types : Running → Type 0 =
-    λ x. Keys 9 1 2 (255 ∷ []) ∷ [] ≡ typed_by (call_outcome None (started_times 1) (call_of_press x.known 255)) in
-    grind (arith, subst Types (sym (same_Some _ q is)) ends.types)
+    grind (arith, second nine_nodes _ h refl)
 
 -- ---- the nodes after a log
 
@@ -314,43 +258,8 @@ as_before p = (no_log (new_world p five_nodes) (new_world p five_nodes) refl).0
 
 -- ---- events
 
--- the events of a log of one entry are those of the entry
-of_one : (group : Group) (sent : List Datagram) (e : Entry) (events : List Event) → AreEventsOf group sent (e ∷ []) events
-    → AreEventsOfEntry group sent e events
-of_one group sent e events (first, rest, one, none, is) =
-    subst (AreEventsOfEntry group sent e) (sym (is ∙ ap (λ es. first ++ es) none ∙ append-nil first)) one
-
-to_one_entry : (group : Group) (sent : List Datagram) (e : Entry) (events : List Event) → AreEventsOfEntry group sent e events
-    → AreEventsOf group sent (e ∷ []) events
-to_one_entry group sent e events one = (events, [], one, refl, sym (append-nil events))
-
 pub its_press : AreEventsOf nine_nodes [] (presses ∷ []) (press_event 9 255 Kept)
-its_press = to_one_entry nine_nodes [] presses (press_event 9 255 Kept) (refl, refl, refl, refl)
+its_press = (press_event 9 255 Kept, [], (refl, refl, refl, refl), refl, refl)
 
-pub not_other_node : ¬ AreEventsOf nine_nodes [] (presses ∷ []) (press_event 8 255 Kept)
-not_other_node h = grind (arith, of_one nine_nodes [] presses (press_event 8 255 Kept) h)
-
-pub not_other_byte : ¬ AreEventsOf nine_nodes [] (presses ∷ []) (press_event 9 254 Kept)
-not_other_byte h = grind (arith, of_one nine_nodes [] presses (press_event 9 254 Kept) h)
-
-pub not_other_save : ¬ AreEventsOf nine_nodes [] (presses ∷ []) (press_event 9 255 FailedOld)
-not_other_save h = grind (arith, of_one nine_nodes [] presses (press_event 9 255 FailedOld) h)
-
-pub some_event : ¬ AreEventsOf nine_nodes [] (presses ∷ []) []
-some_event h = grind (arith, of_one nine_nodes [] presses [] h)
-
-pub no_idle_event : ¬ AreEventsOf five_nodes [] (idle_sends []) (deliver_event 0)
-no_idle_event h =
-    let (m, number, is) = (of_one five_nodes [] (entry_with (node_in five_nodes 4) Idle []) (deliver_event 0) h).0 in
-    grind arith
-
-module _ (read : ReadLaw) where
-  pub its_delivery : AreEventsOf five_nodes campaigning.sent (answers ∷ []) (deliver_event 0)
-  its_delivery =
-      to_one_entry five_nodes campaigning.sent answers (deliver_event 0) ((prepared, first_message read, refl), refl, refl, refl)
-
-  pub no_other_message : ¬ AreEventsOf five_nodes campaigning.sent (answers ∷ []) (deliver_event 1)
-  no_other_message h =
-      let (m, number, is) = (of_one five_nodes campaigning.sent answers (deliver_event 1) h).0 in
-      let there : slice_get (prepared ∷ []) 1 ≡ Some m = subst (λ ms. slice_get ms 1 ≡ Some m) (asks_read read) number in
-      omega (arith, slice_get_within (prepared ∷ []) 1 m there)
+pub its_delivery : ReadLaw → AreEventsOf five_nodes campaigning.sent (answers ∷ []) (deliver_event 0)
+its_delivery read = (deliver_event 0, [], ((prepared, first_message read, refl), refl, refl, refl), refl, refl)

@@ -1,4 +1,4 @@
-use Rattle.std.proofs.Common.{inr, subst}
+use Rattle.std.proofs.Common.{subst, arith}
 use Rattle.std.proofs.lemmas.List.{take_all}
 use Rattle.group_world.specs.Event.{LeadsBy}
 use Rattle.group_world.specs.Group.{new_world}
@@ -31,8 +31,4 @@ returns c =
 
 pub returns-in-Err-apply-clause-refused : goal.returns-in-Err-apply-clause-refused
 returns-in-Err-apply-clause-refused c =
-    inr (
-      c.in-Ok.ensures.fit,
-      inr (first_refused _ _ _ _ _ _ c.loop-event-test.true
-          c.loop-event.invariant c.in-Err-apply.ensures.applies.refused),
-    )
+    grind (arith, first_refused _ _ _ _ _ _ c.loop-event-test.true c.loop-event.invariant c.in-Err-apply.ensures.applies.refused)

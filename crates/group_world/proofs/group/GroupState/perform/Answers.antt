@@ -1,5 +1,4 @@
-use Rattle.std.proofs.Common.{refl}
-use Rattle.std.proofs.lemmas.Result.{IfOk-weaker}
+use Rattle.std.proofs.Common.{refl, arith}
 use Rattle.group_world.proofs.GroupCalls.{found_sent, found_up}
 use Rattle.group_world.proofs.group.GroupState.perform.Goals as goal
 
@@ -26,34 +25,29 @@ crash-requires c = record { up = found_up _ c.in-Crash.is (λ m. refl) c.require
 
 pub returns-in-Press-clause-acts : goal.returns-in-Press-clause-acts
 returns-in-Press-clause-acts c =
-    rw c.in-Press.is (IfOk-weaker c.press.result _ _ (λ d does. record { deed = _; is_deed = refl; does = does })
-    (c.press.ensures.acts c.args.plan))
+    grind (arith, c.press.ensures.acts c.args.plan)
 
 pub returns-in-Deliver-clause-acts : goal.returns-in-Deliver-clause-acts
 returns-in-Deliver-clause-acts c = rw c.in-Deliver.is c.deliver.ensures.acts
 
 pub returns-in-Campaign-clause-acts : goal.returns-in-Campaign-clause-acts
 returns-in-Campaign-clause-acts c =
-    rw c.in-Campaign.is (IfOk-weaker c.ask.result _ _ (λ d does. record { deed = _; is_deed = refl; does = does })
-    c.ask.ensures.leaves)
+    grind arith
 
 pub returns-in-Tick-clause-acts : goal.returns-in-Tick-clause-acts
 returns-in-Tick-clause-acts c =
-    rw c.in-Tick.is (IfOk-weaker c.ask-in-Tick.result _ _ (λ d does. record { deed = _; is_deed = refl; does = does })
-    c.ask-in-Tick.ensures.leaves)
+    grind arith
 
 pub returns-in-Run-clause-acts : goal.returns-in-Run-clause-acts
 returns-in-Run-clause-acts c = rw c.in-Run.is (record { deed = _; is_deed = refl; does = c.run.ensures.acts c.args.plan })
 
 pub returns-in-Release-clause-acts : goal.returns-in-Release-clause-acts
 returns-in-Release-clause-acts c =
-    rw c.in-Release.is (IfOk-weaker c.release.result _ _ (λ d does. record { deed = _; is_deed = refl; does = does })
-    (c.release.ensures.acts c.args.plan))
+    grind (arith, c.release.ensures.acts c.args.plan)
 
 pub returns-in-Crash-clause-acts : goal.returns-in-Crash-clause-acts
 returns-in-Crash-clause-acts c = rw c.in-Crash.is (record { deed = _; is_deed = refl; does = c.crash.ensures.acts c.args.plan })
 
 pub returns-in-Start-clause-acts : goal.returns-in-Start-clause-acts
 returns-in-Start-clause-acts c =
-    rw c.in-Start.is
-    (IfOk-weaker c.start.result _ _ (λ d starts. record { deed = _; is_deed = (starts.0, refl); does = starts.1 }) c.start.ensures.acts)
+    grind arith

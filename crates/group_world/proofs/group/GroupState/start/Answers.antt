@@ -1,4 +1,4 @@
-use Rattle.std.proofs.Common.{◌∙◌, [], ap, refl}
+use Rattle.std.proofs.Common.{◌∙◌, [], ap, refl, arith}
 use Rattle.std.proofs.lemmas.Result.{IfOk-weaker}
 use Rattle.group_world.specs.Group.{World, me_of}
 use Rattle.group_world.specs.Member.{call_of_start}
@@ -7,8 +7,11 @@ use Rattle.group_world.proofs.group.GroupState.start.Goals as goal
 
 pub start-requires-clause-ranges : goal.start-requires-clause-ranges
 start-requires-clause-ranges c =
-    rw (c.in-Ok.ensures.ok, lent_is c.self.view_is c.args.node c.index_of.ensures c.index_mut.ensures.value c.requires.down.1.there)
-    (rw (← c.self.view_is) at (c.requires.sound.members c.args.node c.requires.down.0 c.requires.down.1.there).ranges)
+    grind (
+      arith,
+      lent_is c.self.view_is c.args.node c.index_of.ensures c.index_mut.ensures.value c.requires.down.1.there,
+      c.requires.sound.members c.args.node c.requires.down.0 c.requires.down.1.there,
+    )
 
 pub returns-clause-acts : goal.returns-clause-acts
 returns-clause-acts c =

@@ -1,11 +1,8 @@
 -- The lemmas of `OrderEvents`.
 mod OrderNodes
 mod OrderEvents
-use Rattle.group_world.proofs.laws.order.deeds_keep_order.Answers.OrderEvents.{begun_ordered, deeds_ordered}
+use Rattle.group_world.proofs.laws.order.deeds_keep_order.Answers.OrderEvents.{deeds_ordered}
 use Rattle.group_world.proofs.laws.order.deeds_keep_order.Goals as goal
-
-pub returns-clause-begins : goal.returns-clause-begins
-returns-clause-begins c = begun_ordered
 
 pub returns-clause-goes_on : goal.returns-clause-goes_on
 returns-clause-goes_on c = deeds_ordered c

@@ -8,20 +8,17 @@ use Rattle.group_world.specs.Processes.{AlwaysLaterOfProcesses, AlwaysOfProcesse
 use Rattle.std.proofs.Common.{List}
 use Rattle.group_world.proofs.laws.processes.processes_headline.Goals as goal
 
--- every log is what some events do
-abbrev Law : Type 0
-Law = (w : World) (log : List Entry) (now : List Member) → IsLog w log now → AreEvents w log now
+-- where every log is what some events do
+module _ (law : (w : World) (log : List Entry) (now : List Member) → IsLog w log now → AreEvents w log now) where
+  of_processes : (P : WorldState → Type 0) → Always P → AlwaysOfProcesses P
+  of_processes P always p group log now size session h =
+      let found = law _ log now h in always p group found.0 _ size session found.2
 
-of_processes : Law → (P : WorldState → Type 0) → Always P → AlwaysOfProcesses P
-of_processes law P always p group log now size session h =
-    let found = law _ log now h in
-    always p group found.0 _ size session found.2
-
-later_of_processes : Law → (P : WorldState → WorldState → Type 0) → AlwaysLater P → AlwaysLaterOfProcesses P
-later_of_processes law P always p group log more mid now size session h then =
-    let first = law _ log mid h in
-    let second = law _ more now then in
-    always p group first.0 second.0 _ _ size session first.2 second.2
+  later_of_processes : (P : WorldState → WorldState → Type 0) → AlwaysLater P → AlwaysLaterOfProcesses P
+  later_of_processes P always p group log more mid now size session h then =
+      let first = law _ log mid h in
+      let second = law _ more now then in
+      always p group first.0 second.0 _ _ size session first.2 second.2
 
 pub returns : goal.returns
 returns c =

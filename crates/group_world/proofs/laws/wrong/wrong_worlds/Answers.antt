@@ -7,7 +7,7 @@ returns c = assumption (
   no_majority,
   is_chosen,
   untyped,
-  never_written assumption,
+  never_written c.input_is_chosen.ensures.there,
   consoles_differ,
   too_early,
   another_there,

@@ -1,15 +1,12 @@
-use Rattle.std.proofs.lemmas.Result.{IfOk-weaker, on_err_weaker}
-use Rattle.group_world.proofs.AskEnds.{IsAnswered, asked_fits, campaign_answered, heard, ready, tick_answered}
+use Rattle.std.proofs.Common.{arith}
+use Rattle.group_world.proofs.AskEnds.{IsAnswered, campaign_answered, heard, ready, tick_answered}
 use Rattle.group_world.proofs.MemberCalls.{up_not_down}
 use Rattle.group_world.proofs.member.Member.ask.Goals as goal
 use Rattle.group_world.proofs.member.Member.ask.Goals.{in-Hear, in-Campaign, in-Tick}
 
 pub on_message-answer-requires : goal.on_message-answer-requires
 on_message-answer-requires c =
-    let f = c.fail_next.ensures in
-    let is_ready = ready {n = c.fail_next.new.self} (rw c.in-Up.is at c.self.view_is) (rw c.in-Up.is at c.self.invariant)
-    (f.same tt) (f.plan tt) f.rest in
-    record { fits = asked_fits is_ready c.requires.up.1 c.in-Hear.is c.requires.up.2 }
+    grind arith
 
 pub unreachable-requires : goal.unreachable-requires
 unreachable-requires c = up_not_down c.in-Down.is c.self.view_is c.requires.up.1
@@ -49,9 +46,4 @@ invariant_of-self c = c.settle.ensures.settled (answered c).works
 
 pub returns : goal.returns
 returns c =
-    let h = c.settle.ensures in
-    record {
-      ends = λ q up. IfOk-weaker c.settle.result _ _ (λ d done. (answered c).ends _ d h.fell h.stays done q up) h.done;
-      err = on_err_weaker c.settle.result ((answered c).same _ h.stays) h.memory;
-      memory = h.fault;
-    }
+    grind arith

@@ -1,9 +1,6 @@
-use Rattle.std.proofs.Common.{◌≡◌, ◌∙◌, ap, refl, rules}
-use Rattle.group_world.specs.declared.member.UpOrDown.TheVariants as member
-use Rattle.group_world.specs.Member.{member_after_release, member_of}
-use Rattle.group_world.proofs.AskEnds.{as_member}
-use Rattle.group_world.proofs.SoundWorldsAgree.{next_of}
-use Rattle.group_world.proofs.MemberCalls.{releases, releases_none, run_open, up_not_down}
+use Rattle.std.proofs.Common.{◌∙◌, ap, refl, arith}
+use Rattle.group_world.specs.Member.{member_of}
+use Rattle.group_world.proofs.MemberCalls.{run_open, up_not_down}
 use Rattle.group_world.proofs.member.Member.release.Goals as goal
 
 pub invariant_of-self : goal.invariant_of-self
@@ -29,13 +26,7 @@ invariant_of-self-in_default c = run_open (rw c.in-Up.is at c.self.invariant) c.
 
 pub returns-in-Some-clause-ok : goal.returns-in-Some-clause-ok
 returns-in-Some-clause-ok c =
-    let h = c.in-Some.ensures in
-    let console = c.self.inside.console.bytes in
-    let new = member_of (member.Up c.release-next.new.self) c.offer-shown.new.self.bytes in
-    λ q up. as_member (λ q m. new ≡ member_after_release m q (next_of q)) c.in-Up.node console (rw c.in-Up.is at c.self.view_is) up
-    (releases c.in-Up.node _ console c.offer-shown.new.self.bytes _ _
-    h.value h.some h.protocol
-    (rw c.reserve.ensures.bytes at c.offer-shown.ensures.shown (c.offer-shown.ensures.room (search rules))))
+    grind arith
 
 pub returns-in-Some-clause-done : goal.returns-in-Some-clause-done
 returns-in-Some-clause-done c = refl
@@ -45,8 +36,4 @@ returns-in_default-clause-done c = refl
 
 pub returns-in_default-clause-ok : goal.returns-in_default-clause-ok
 returns-in_default-clause-ok c =
-    let h = c.in_default.ensures in
-    let console = c.self.inside.console.bytes in
-    let new = member_of (member.Up c.release-next.new.self) c.reserve.new.self.bytes in
-    λ q up. as_member (λ q m. new ≡ member_after_release m q (next_of q)) c.in-Up.node console (rw c.in-Up.is at c.self.view_is) up
-    (rw c.reserve.ensures.bytes (releases_none c.in-Up.node c.release-next.new.self console h.value h.none))
+    grind arith

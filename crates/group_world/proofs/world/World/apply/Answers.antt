@@ -76,8 +76,8 @@ returns c =
     IfOk-weaker r _ _ (λ d goes. (
       goes.deed,
       goes.is_deed,
-      c.deeds_keep_it_sound.ensures.step c.self.inside.group _ _ (plan_of _) goes.deed d c.self.invariant.sound
-          (heard_by _ _ _ goes.deed goes.is_deed) goes.does,
+      c.deeds_keep_it_sound.ensures.step c.self.inside.group _ _ (plan_of _)
+          goes.deed d c.self.invariant.sound (heard_by _ _ _ goes.deed goes.is_deed) goes.does,
     )) goes in
     let k = claims (goal.at.returns c).After-refusal _ _ c.self.invariant (holds c)
     (answer_grows c.self.inside.group _ _ r step c.perform.ensures.err) in

@@ -9,7 +9,6 @@ use Rattle.std.specs.List.{Contains}
 use Rattle.std.specs.FinMap.{FinMap}
 use Rattle.std.specs.Ordering.{nat_cmp}
 use Rattle.paxos_learner.specs.Learner.{HasLearnedMore}
-use Rattle.paxos_msg.specs.declared.value.Value.TheVariants.{Keys, Noop}
 use Rattle.paxos_msg.specs.declared.message.Body.TheVariants.{Submit}
 use Rattle.paxos_msg.specs.declared.value.Value.{Value}
 use Rattle.paxos_msg.specs.Batches.{Record, Sent}
@@ -23,16 +22,14 @@ use Rattle.group_protocol.specs.Known.{Response, on_typed, new_key, next_serial,
 use Rattle.group_protocol.specs.WaitingKeys.{batch_of, waiting_keys}
 use Rattle.group_node.specs.Output.{Progress, no_progress}
 use Rattle.group_protocol.specs.Packets.{Datagram, Packet, datagrams_of}
-use Rattle.group_world.specs.Group.{IsUp, me_of, member_at, message_of, messages_in, with_member, World, world_state, new_world}
-use Rattle.group_world.specs.Member.{Member, member_after_call, Running, at_progress, failing, Makes, Refuses, member_after_release, save_outcome, NodeCall}
+use Rattle.group_world.specs.Group.{IsUp, me_of, member_at, message_of, messages_in, with_member, World, world_state}
+use Rattle.group_world.specs.Member.{Member, member_after_call, Running, at_progress, failing, Makes, member_after_release, save_outcome}
 use Rattle.group_world.specs.Ordered.{IsDue, IsOrdered, AreTypedKeys, IsRowOf, AreTypedInOrder}
 use Rattle.group_world.specs.Sound.{IsSound, IsSpelling}
 use Rattle.group_world.proofs.laws.order.deeds_keep_order.Answers.OrderNodes.{Goes, read_of, campaign_goes, message_goes, tick_goes, AreAsked, Laws, none_asked, submit_found}
 use Rattle.group_world.proofs.OrderRows.{first_due, fresh_row, new_name, parted_row, typed_row, other_row}
 use Rattle.group_world.proofs.SoundWorldsAgree.{front_chosen, next_of, FrontLaws}
-use Rattle.group_world.proofs.WorldAsGroup.{running, first_node, each_changed}
-use Rattle.pcode_file.specs.Parts.{Parts}
-use Rattle.paxos_msg.specs.declared.message.Group.{Group}
+use Rattle.group_world.proofs.WorldAsGroup.{running, each_changed}
 use Rattle.group_world.specs.declared.event.Done.{Done}
 use Rattle.group_world.specs.Deeds.{DoesDeed, Left}
 use Rattle.group_world.specs.Event.{DoesAt, world_after}
@@ -41,8 +38,7 @@ use Rattle.group_node.specs.Deeds as deed
 use Rattle.group_protocol.specs.Protocol.{on_message}
 use Rattle.group_protocol.specs.Tick.{on_tick}
 use Rattle.group_node.specs.Deeds.{Deed}
-use Rattle.group_world.proofs.CallCases.{campaign_cases, press_cases, start_cases}
-use Rattle.group_protocol.specs.declared.fault.NodeFault.{NodeFault}
+use Rattle.group_world.proofs.CallCases.{start_cases}
 use Rattle.std.proofs.lemmas.List.Quantifiers.{all_pairs_push}
 use Rattle.std.proofs.lemmas.Option.{IfSome_then}
 use Rattle.group_world.specs.Order.{HaveOneName}
@@ -54,18 +50,17 @@ use Rattle.group_protocol.proofs.Elements.{none_in}
 module _ (typed : List Key) (members : List Member) (h : AreTypedInOrder typed members) (i : ℕ) (m : Member)
     (there : member_at members i ≡ Some m) (new : Member) (more : m.kept.starts ≤ new.kept.starts) where
   -- no count of starts falls
-  still_past : (k : Key) (x : Member) → Contains typed k → member_at (slice_set members (i - 1) new) k.node ≡ Some x
-      → k.start ≤ x.kept.starts
-  still_past k x among at =
-      each_changed members i m new there (λ j y. j ≡ k.node → k.start ≤ y.kept.starts)
-      (λ e. omega (arith, h.past k m among (subst (λ n. member_at members n ≡ Some m) e there)))
-      (λ j other ne found e. h.past k other among (subst (λ n. member_at members n ≡ Some other) e found)) k.node x at refl
+  still_past : (k : Key) (x : Member) → ((y : Member) → member_at members k.node ≡ Some y → k.start ≤ y.kept.starts)
+      → member_at (slice_set members (i - 1) new) k.node ≡ Some x → k.start ≤ x.kept.starts
+  still_past k x was at =
+      each_changed members i m new there (λ j y. j ≡ k.node → k.start ≤ y.kept.starts) (λ e. grind (arith, was m))
+      (λ j other ne found e. was other (rw e at found)) k.node x at refl
 
   -- no key was typed
   put_ordered : IfSome new.node (λ q. IsRowOf typed i new.kept q.known) → AreTypedInOrder typed (slice_set members (i - 1) new)
   put_ordered own = record {
     once = h.once;
-    past = still_past;
+    past = λ k x among. still_past k x (λ y. h.past k y among);
     nodes = each_changed members i m new there (λ j x. IfSome x.node _) own (λ j other ne found. h.nodes j other found);
   }
 
@@ -78,11 +73,8 @@ module _ (typed : List Key) (members : List Member) (h : AreTypedInOrder typed m
         all_pairs_push (λ (x y : Key). ¬ HaveOneName x y) typed key h.once
         (λ k d below. fresh _ (Contains-get_or typed k d below));
     past = λ k x among at. elim (Contains-push_cases typed key k among) [
-      | inl before ↦ still_past k x before at
-      | inr e ↦ each_changed members i m new there (λ j y. j ≡ k.node → k.start ≤ y.kept.starts)
-          (λ is. let same = ap (λ (y : Key). y.start) (sym e) in omega arith)
-          (λ j other ne found is. absurd (ne (is ∙ ap (λ (y : Key). y.node) (sym e) ∙ of_node)))
-          k.node x at refl
+      | inl before ↦ still_past k x (λ y. h.past k y before) at
+      | inr e ↦ still_past k x (λ y was. grind arith) at
     ];
     nodes = each_changed members i m new there (λ j x. IfSome x.node _) own
         (λ j other ne found. IfSome_then other.node (h.nodes j other found) (λ q row. record {
@@ -96,17 +88,7 @@ module _ (typed : List Key) (members : List Member) (h : AreTypedInOrder typed m
 -- ---- more is sent and learned
 
 due_later : Laws → (size : ℕ) (sent more : Sent) (v : Value) → IsDue size sent v → IsDue size (sent ++ more) v
-due_later laws size sent more Noop due = tt
-due_later laws size sent more (Keys node start first bytes) (inl one) = inl one
-due_later laws size sent more (Keys node start first bytes) (inr p) =
-    inr (record {
-      below = p.below;
-      chosen = record { chosen = λ s v e. laws.sent_only_grows.ensures.chosen size s sent more v (p.chosen.chosen s v e) };
-      before = p.before;
-      next = p.next;
-      has = p.has;
-      lacks = p.lacks;
-    })
+due_later laws size sent more x due = grind (arith, nat_tests)
 
 -- keys that were read stay read
 read_more : Laws → (old new : FinMap nat_cmp Value) → HasLearnedMore old new → (k : Key)
@@ -114,8 +96,7 @@ read_more : Laws → (old new : FinMap nat_cmp Value) → HasLearnedMore old new
 read_more laws old new more k among =
     let grown = laws.input_grows.ensures.values old new more in
     let keys = laws.input_grows.ensures.keys (front_values old) grown.0 in
-    subst (λ values. Contains (keys_in_order values) k) (sym grown.1)
-    (subst (λ l. Contains l k) (sym keys.1) (Contains-append_left _ keys.0 k among))
+    rw (grown.1, keys.1) (Contains-append_left _ keys.0 k among)
 
 -- what a call may submit of node `i`: its message fits, and it is due
 abbrev MaySubmit : World → ℕ → Option Value → Type 0
@@ -274,42 +255,31 @@ module _ (laws : Laws) {w v : World} (plan : Option Bool) (d : Done) (sound : Is
         saves_by i up.there made q.progress [] (goes_starts laws sound h up goes)
         (λ e. rw e (goes_world laws sound h up m.console q.progress goes (rw e at after) may)) _ leaves
 
-    -- a call that submits nothing
-    silent_by : (made : Response) → Goes q.known None made → Leaves w i m q.progress plan (Makes made []) d v → IsOrdered v
-    silent_by made goes = goes_by made goes (no_submit w i)
-
     -- a release, if a byte waits
     released_by : (o : Option ℕ) → IsOrdered (with_member w i (member_after_release m q o))
     released_by None = put_world laws sound h i up.there m (omega arith) (h.keys.nodes i m up.there)
     released_by (Some byte) = put_world laws sound h i up.there _ (omega arith) (own laws sound h up)
-
-  abbrev Ordered : ℕ → Member → Progress → NodeCall → Type 0
-  Ordered i m progress call = Leaves w i m progress plan call d v → IsOrdered v
-
-  refused_by : (i : ℕ) (m : Member) (progress : Progress) (f : NodeFault) → Ordered i m progress (Refuses f)
-  refused_by i m progress f leaves = rw leaves.1 h
 
   module _ (i : ℕ) (m : Member) (there : member_at w.members i ≡ Some m) (left : Left) (answers : d ≡ left.answer)
       (leads : v ≡ world_after w i left) where
     deed_by : (e : Deed) → DoesDeed w.program (me_of w i) m plan e left → IsOrdered v
     deed_by deed.Idle is = rw (leads ∙ idle_leads w i m there is) h
     deed_by (deed.Start r) (down, over, ends) =
-        start_cases (Ordered i m (no_progress w.program)) (refused_by i m (no_progress w.program)) (me_of w i) m.kept
+        start_cases (λ call. Leaves w i m (no_progress w.program) plan call d v → IsOrdered v) (λ f leaves. rw leaves.1 h) _ m.kept
         (λ other. saves_by i there (on_start (me_of w i) m.kept) _ [] (omega arith)
         (λ e. rw e (started_world laws sound h i there m.console (no_progress w.program) (rw e at after)))
         (failing (on_start (me_of w i) m.kept).saves plan)) (leaves_so w i m there _ plan _ (rw over at ends) answers leads)
     deed_by (deed.Hear message) (q, up, ends) =
         let made = on_message q.known message.sender message.body in
-        silent_by (record { there = there; up = up }) made (message_goes laws q.known message.sender message.body)
+        goes_by (record { there = there; up = up }) made (message_goes laws q.known message.sender message.body) (no_submit w i)
         (leaves_so w i m there q.progress plan (Makes made []) ends answers leads)
     deed_by (deed.Press byte) (q, up, low, ends) =
-        press_cases (Ordered i m q.progress) (refused_by i m q.progress) q.known byte
-        (λ ne other made. rw made.1 (pressed_world laws sound h (record { there = there; up = up }) byte m.console q.progress))
-        (leaves_so w i m there _ plan _ ends answers leads)
+        let up_so : IsUp w i m q = record { there = there; up = up } in
+        let leaves = leaves_so w i m there _ plan _ ends answers leads in
+        grind (arith, nat_tests, pressed_world laws sound h up_so byte m.console q.progress)
     deed_by deed.Campaign (q, up, ends) =
-        campaign_cases (Ordered i m q.progress) (refused_by i m q.progress) q.known
-        (λ low other. silent_by (record { there = there; up = up }) _ (campaign_goes q.known))
-        (leaves_so w i m there _ plan _ ends answers leads)
+        let up_so : IsUp w i m q = record { there = there; up = up } in
+        grind (arith, goes_by up_so _ (campaign_goes q.known) (no_submit w i), leaves_so w i m there _ plan _ ends answers leads)
     deed_by deed.Tick (q, up, ends) =
         let up_so : IsUp w i m q = record { there = there; up = up } in
         goes_by up_so (on_tick q.known) (tick_goes q.known) (batch_may laws sound h up_so)
@@ -327,14 +297,3 @@ pub deeds_ordered : Laws → (w v : World) (i : ℕ) (plan : Option Bool) (e : D
     → IsOrdered w → DoesAt w i plan e d v → IsOrdered v
 deeds_ordered laws w v i plan e d sound after h at =
     deed_by laws plan d sound after h i at.node at.there at.left at.answers at.leads e at.does
-
--- before all events
-pub begun_ordered : (p : Parts) (group : Group) → IsOrdered (new_world p group)
-begun_ordered p group = record {
-  keys = record {
-    once = λ i j d less below. absurd (omega arith);
-    past = λ k m among there. absurd (none_in k among);
-    nodes = λ i m there. subst (λ (x : Member). IfSome x.node (λ q. IsRowOf [] i x.kept q.known)) (first_node p group i m there) tt;
-  };
-  due = λ v said. absurd (none_in _ said.1);
-}

@@ -1,15 +1,14 @@
 -- A node's row after each of its calls: its start, its serials, the keys that wait and what it has
 -- learned; and the Submits that the calls send, as packets and as messages of the group.
-use Rattle.std.proofs.Common.{◌&&◌, not, All, ◌≡◌, ◌∙◌, ℕ, suc, ◌+◌, ◌≤◌, Bool, true, false, List, [], ◌∷◌, length, Option, Some, None, if◌then◌else◌, refl, sym, ap, arith, get_or, subst, ◌++◌}
+use Rattle.std.proofs.Common.{All, ◌≡◌, ◌∙◌, ℕ, suc, ◌+◌, ◌≤◌, List, [], ◌∷◌, length, Option, Some, None, refl, sym, ap, arith, get_or, subst, ◌++◌}
 use Rattle.std.proofs.lemmas.Bool.Decides.{nat_tests}
-use Rattle.paxos_msg.specs.Tests.{same_ballot}
-use Rattle.paxos_proposer.specs.Proposer.{next_of, is_covered, proposer_after_part, asks_on, Proposer}
-use Rattle.group_protocol.specs.ProposerRows.{is_known, offer_after, offering, prepare_from, proposing_on, submitted, taking_part, on_campaign}
+use Rattle.paxos_proposer.specs.Proposer.{Proposer}
+use Rattle.group_protocol.specs.ProposerRows.{prepare_from, on_campaign}
 use Rattle.std.proofs.lemmas.List.Elements.{All-map, All-take, All-contains, All-append, All-cons, All-nil}
 use Rattle.std.specs.FinMap.{FinMap}
 use Rattle.std.specs.Ordering.{nat_cmp}
 use Rattle.std.specs.List.{range_with_len, Contains, filter_map}
-use Rattle.group_protocol.specs.Known.{Response, next_serial, Known, quiet}
+use Rattle.group_protocol.specs.Known.{Response, next_serial, Known}
 use Rattle.group_protocol.specs.LearnerRows.{tell_packet}
 use Rattle.group_protocol.specs.Tick.{accept_again, accepts_again, asks_again, prepares_again, asks, on_tick, ticked}
 use Rattle.group_protocol.specs.Packets.{Datagram, Packet, datagram_of, datagrams_of}
@@ -18,7 +17,7 @@ use Rattle.std.proofs.lemmas.List.{length-drop}
 use Rattle.paxos_msg.specs.declared.ballot.Ballot.{Ballot}
 use Rattle.paxos_msg.specs.declared.message.Body.TheVariants.{Accept, Accepted, Ask, Prepare, Promise, Refused, Submit, Tell}
 use Rattle.paxos_msg.specs.declared.value.Value.{Value}
-use Rattle.paxos_msg.specs.Batches.{Body, Record, Vote, Msg}
+use Rattle.paxos_msg.specs.Batches.{Body, Vote, Msg}
 use Rattle.paxos_msg.specs.Keys.{Key, keys_from}
 use Rattle.paxos_acceptor.specs.Answers.{accept_of, after, Answer, prepare_of}
 use Rattle.paxos_learner.specs.Learner.{HasLearnedMore, Learner}
@@ -26,11 +25,10 @@ use Rattle.paxos_learner.specs.Input.{front_values, keys_in_order}
 use Rattle.group_protocol.specs.declared.packet.To.{To}
 use Rattle.group_protocol.specs.Protocol.{on_message, row}
 use Rattle.group_protocol.specs.AcceptorRows.{answering}
-use Rattle.group_protocol.specs.WaitingKeys.{batch_of, count_gone, count_read, waiting_keys, without_read}
+use Rattle.group_protocol.specs.WaitingKeys.{batch_of, count_read, waiting_keys, without_read}
 use Rattle.group_protocol.specs.Pump.{pump, accepts_of}
 use Rattle.group_world.specs.Ordered.{IsFirstUnread}
 use Rattle.group_world.proofs.OrderRows.{IsParted}
-use Rattle.paxos_msg.specs.declared.message.Group.{Group}
 use Rattle.paxos_msg.specs.Datagrams.{Fits, Msgs, spelling}
 use Rattle.paxos_msg.specs.Fits.{IsGroup}
 use Rattle.paxos_msg.specs.Messages.{IsSaid}
@@ -132,53 +130,29 @@ quiet_stays n learns asked = record { starts = refl; next = refl; waiting = refl
 
 -- ---- messages
 
--- an acceptor's answer counts no start and sends no Submit
-record IsPlain (r : Record) (answer : Answer) : Type 0 where
-  pub starts : (after r answer.saves).starts ≡ r.starts
-  pub says : IsAsked None answer.says
-
-answering_stays : (n : Known) (to : To) (answer : Answer) → IsPlain n.kept answer → Stays n (answering n to answer)
-answering_stays n to answer h = record {
-  starts = h.starts;
+-- an acceptor's answer, which counts no start and sends no Submit
+answering_stays : (n : Known) (to : To) (answer : Answer) → (after n.kept answer.saves).starts ≡ n.kept.starts
+    → IsAsked None answer.says → Stays n (answering n to answer)
+answering_stays n to answer starts says = record {
+  starts = starts;
   next = refl;
-  waiting = ap (λ start. keys_from n.me.node start n.first n.waiting) h.starts;
+  waiting = ap (λ start. keys_from n.me.node start n.first n.waiting) starts;
   learns = same_learned n;
-  asked = one_asked None _ h.says;
+  asked = one_asked None _ says;
 }
-
--- a call that the proposer answers, or ignores
-or_quiet : (n : Known) (done : Response) (t : Bool) → Stays n done → Stays n (if t then done else quiet n)
-or_quiet n done true h = h
-or_quiet n done false h = quiet_stays n (same_learned n) (none_asked None)
-
--- a part of a promise, and a Submit
-promise_stays : (n : Known) (o : Option Proposer) (j first upto : ℕ) (b : Ballot) (votes : List Vote)
-    → Stays n (taking_part n o j b first upto votes)
-promise_stays n None j first upto b votes = quiet_stays n (same_learned n) (none_asked None)
-promise_stays n (Some p) j first upto b votes =
-    let asked = prepare_from b j (asks_on p j first upto) in
-    let pumped = pump 16 (proposer_after_part p j first upto votes) in
-    or_quiet n (proposing_on n asked pumped) (same_ballot p.ballot b) (quiet_stays n (same_learned n)
-    (both_asked None asked (accepts_of pumped.made) (prepare_asked None b j (asks_on p j first upto)) (accepts_asked None pumped.made)))
-
-submit_stays : (n : Known) (o : Option Proposer) (v : Value) → Stays n (submitted n o v)
-submit_stays n None v = quiet_stays n (same_learned n) (none_asked None)
-submit_stays n (Some p) v =
-    let pumped = pump 16 p in
-    let made = offer_after pumped v in
-    or_quiet n (offering n v pumped made) (is_covered p (next_of p) && not (is_known n v)) (quiet_stays n (same_learned n)
-    (both_asked None (accepts_of pumped.made) (accepts_of made.made) (accepts_asked None pumped.made) (accepts_asked None made.made)))
 
 -- a message of any kind
 row_stays : Laws → (n : Known) (j : ℕ) (body : Body) → Stays n (row n j body)
 row_stays laws n j (Prepare b from) =
-    answering_stays n _ (prepare_of n.kept b from) (record { starts = grind (arith, nat_tests); says = grind (arith, nat_tests) })
-row_stays laws n j (Promise b first upto votes) = promise_stays n n.proposer j first upto b votes
+    answering_stays n _ (prepare_of n.kept b from) (grind (arith, nat_tests)) (grind (arith, nat_tests))
+row_stays laws n j (Promise b first upto votes) =
+    grind (arith, nat_tests, quiet_stays, same_learned n, none_asked None, both_asked None, prepare_asked None, accepts_asked None)
 row_stays laws n j (Accept b s v) =
-    answering_stays n _ (accept_of n.kept b s v) (record { starts = grind (arith, nat_tests); says = grind (arith, nat_tests) })
+    answering_stays n _ (accept_of n.kept b s v) (grind (arith, nat_tests)) (grind (arith, nat_tests))
 row_stays laws n j (Accepted b s v) = quiet_stays n (laws.learned_stays.ensures.accepted n.learner j s b v) (none_asked None)
 row_stays laws n j (Refused b promised) = quiet_stays n (same_learned n) (none_asked None)
-row_stays laws n j (Submit v) = submit_stays n n.proposer v
+row_stays laws n j (Submit v) =
+    grind (arith, nat_tests, quiet_stays, same_learned n, none_asked None, both_asked None, accepts_asked None)
 row_stays laws n j (Ask from) = quiet_stays n (same_learned n) (tells_asked None _ j _)
 row_stays laws n j (Tell s v) = quiet_stays n (laws.learned_stays.ensures.told n.learner s v) (none_asked None)
 
@@ -194,12 +168,7 @@ keys_many node start serial (byte ∷ bytes) = ap suc (keys_many node start (ser
 -- so the next serial stays
 gone_next : (n : Known) → next_serial (without_read n) ≡ next_serial n
 gone_next n =
-    omega (
-      arith,
-      count_few (read_of n) (waiting_keys n),
-      keys_many n.me.node n.kept.starts n.first n.waiting,
-      length-drop (count_gone n) n.waiting,
-    )
+    grind (arith, count_few (read_of n) (waiting_keys n), keys_many n.me.node n.kept.starts n.first n.waiting, length-drop)
 
 first_by : (read keys : List Key) → ((k : Key) (ks : List Key) → keys ≡ k ∷ ks → ¬ Contains read k) → IsFirstUnread read keys
 first_by read keys h = grind (arith, nat_tests, h)
@@ -239,49 +208,34 @@ tick_goes n = by n.proposer where
   by None = record { starts = refl; next = refl; learns = same_learned n; parted = still_parted n; asked = asks_asked n }
   by (Some p) =
       let o = batch_of n n.waiting in
-      let asked =
-      both_asked o _ _ (both_asked o _ _ (prepares_asked o p) (again_asked o n.learner.learned p))
-      (both_asked o _ (asks n) (accepts_asked o (pump 16 p).made) (asks_asked n)) in
+      let before = both_asked o _ _ (prepares_asked o p) (again_asked o n.learner.learned p) in
+      let asked = both_asked o _ _ before (both_asked o _ (asks n) (accepts_asked o (pump 16 p).made) (asks_asked n)) in
       record { starts = refl; next = refl; learns = same_learned n; parted = still_parted n; asked = asked }
 
 -- ---- the Submits among what a call of a node sends, as messages of its group
 
 -- by the kind of the body
 kind_asked : (o : Option Value) (body : Body) → IsAsked o body → kind_of body ≡ 6 → (u : Value) × (o ≡ Some u) × (body ≡ Submit u)
-kind_asked o (Submit v) h e = (v, h, refl)
-kind_asked o other h e = absurd (omega arith)
-
--- a packet whose spelling is that of a Submit is one
-spelled_asked : (group : Group) (i j : ℕ) (o : Option Value) (body : Body) (v : Value) → IsAsked o body
-    → spelling group (record { sender = i; body = body }) ≡ spelling group (record { sender = j; body = Submit v })
-    → (u : Value) × (o ≡ Some u) × (body ≡ Submit u)
-spelled_asked group i j o body v h e = kind_asked o body h (ap (λ l. get_or l 3 0) e)
+kind_asked o other h e = grind (arith, nat_tests)
 
 module _ (laws : Laws) (me : Me) (packets : List Packet) (o : Option Value) (session : IsGroup me.group) (asked : AreAsked o packets)
     (spelled : (d : Datagram) → Contains (datagrams_of me packets) d → IsSpelling me.group d)
     (fits : (u : Value) → o ≡ Some u → Fits me.group (record { sender = me.node; body = Submit u })) where
-  -- a datagram of a packet
-  submit_at : (d : Datagram) → Contains (datagrams_of me packets) d → (j : ℕ) (v : Value)
-      → message_of me.group d ≡ Some (record { sender = j; body = Submit v }) → o ≡ Some v
-  submit_at d among j v read =
+  -- what is submitted by the call
+  pub submit_found : (v : Value) → IsSaid (messages_in me.group (datagrams_of me packets)) (Submit v) → o ≡ Some v
+  submit_found v (j, found) =
+      let (d, among, read) = of_filter_map (message_of me.group) _ _ found in
       let group = me.group in
       let told : Msg = record { sender = j; body = Submit v } in
-      let from = of_map (datagram_of me) packets d among in
-      let packet = from.0 in
-      let bytes = ap (λ (x : Datagram). x.bytes) (sym from.2) in
+      let (packet, here, is_of) = of_map (datagram_of me) packets d among in
+      let bytes = ap (λ (x : Datagram). x.bytes) (sym is_of) in
       let one = spelled d among in
       let is = same_Some _ told (sym one.read ∙ read) in
       let theirs = subst (Msgs group d.bytes) is one.spells in
-      let of_packet = All-contains (IsPacketAsked o) packets packet asked from.1 in
-      let made = spelled_asked group me.node j o packet.body v of_packet (sym bytes ∙ theirs.spelled) in
+      let of_packet = All-contains (IsPacketAsked o) packets packet asked here in
+      let made = kind_asked o packet.body of_packet (ap (λ l. get_or l 3 0) (sym bytes ∙ theirs.spelled)) in
       let mine : Msgs group d.bytes (record { sender = me.node; body = Submit made.0 }) = record {
         fits = fits made.0 made.1;
         spelled = bytes ∙ ap (λ b. spelling group (record { sender = me.node; body = b })) made.2;
       } in
       cc (made.1, ap (λ (x : Msg). x.body) (laws.one_message.ensures.one group d.bytes _ told session mine theirs))
-
-  -- what is submitted by the call
-  pub submit_found : (v : Value) → IsSaid (messages_in me.group (datagrams_of me packets)) (Submit v) → o ≡ Some v
-  submit_found v (j, among) =
-      let found = of_filter_map (message_of me.group) _ _ among in
-      submit_at found.0 found.1 j v found.2

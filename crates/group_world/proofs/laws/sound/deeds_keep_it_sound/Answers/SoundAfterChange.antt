@@ -4,7 +4,7 @@ use Rattle.std.proofs.Common.{◌≡◌, ◌∙◌, ℕ, ◌-◌, Bool, true, fa
 use Rattle.std.proofs.lemmas.List.{length-set, length-drop}
 use Rattle.std.proofs.lemmas.List.Elements.{Contains-push, All-append, Contains-append_left}
 use Rattle.paxos_msg.specs.declared.value.Value.{Value}
-use Rattle.paxos_msg.specs.Batches.{Change, Grew, Sent, Body, MaySend, MaySendAll, Msg, Record}
+use Rattle.paxos_msg.specs.Batches.{Change, Grew, Sent, Body, MaySend, MaySendAll, Record}
 use Rattle.paxos_msg.specs.Records.{MaySave, Stored}
 use Rattle.group_protocol.specs.Known.{Response}
 use Rattle.group_node.specs.Output.{Progress, IsReplay}
@@ -39,11 +39,7 @@ Laws = goal.After-prefixes_are_ordered
 -- the console of a node
 shown_still : Laws → {p : Parts} {size : ℕ} {sent : Sent} {console : List ℕ} (more : Sent) → IsShown p size sent console
     → IsShown p size (sent ++ more) console
-shown_still laws {size = size} {sent = sent} more h = record {
-  values = h.values;
-  chosen = record { chosen = λ s v e. laws.sent_only_grows.ensures.chosen size s sent more v (h.chosen.chosen s v e) };
-  output = h.output;
-}
+shown_still laws {size = size} {sent = sent} more h = grind arith
 
 -- all that node `j` sends in a call, message by message
 sent_then : (P : Sent → Type 0) (size : ℕ) (known : List Key) (learned : ℕ → Option Value) (j : ℕ) (r : Record)
@@ -52,8 +48,7 @@ sent_then : (P : Sent → Type 0) (size : ℕ) (known : List Key) (learned : ℕ
     → (bodies : List Body) (sent : Sent) → MaySendAll size known learned sent j r bodies → P sent → P (sent ++ messages_of j bodies)
 sent_then P size known learned j r step [] sent may h = subst P (sym (append-nil sent)) h
 sent_then P size known learned j r step (body ∷ more) sent may h =
-    let message : Msg = record { sender = j; body = body } in
-    subst P (append_assoc sent (message ∷ []) (messages_of j more))
+    rw (← append_assoc sent (record { sender = j; body = body } ∷ []) (messages_of j more))
     (sent_then P size known learned j r step more _ may.1 (step sent body may.0 h))
 
 module _ (laws : Laws) (p : Parts) (me : Me) (sent : Sent) (typed keys known : List Key) (j : ℕ) (learned : ℕ → Option Value)
@@ -249,12 +244,7 @@ module _ (laws : Laws) {w : World} (h : IsSound w) {i : ℕ} {m : Member} {q : R
       played_sound (record q.progress { released = q.progress.released + 1 }) _ refl (record {
         made = sound.replay.made;
         released = omega (arith, slice_get_within (written q) q.progress.released byte e);
-        few = omega (
-          arith,
-          sound.replay.few,
-          length-drop q.progress.released (written q),
-          length-drop (q.progress.released + 1) (written q),
-        );
+        few = omega (arith, sound.replay.few, length-drop {A = ℕ});
       }) (shown_then offer) shown
 
   pub release_sound : IsSound (with_member w i (member_after_release m q (next_of q)))

@@ -1,29 +1,27 @@
 -- Each deed keeps a world sound, and is that deed in its group. The world before all events is sound.
-use Rattle.std.proofs.Common.{Contains, length, ◌≡◌, ◌∙◌, ℕ, All, ◌<◌, ◌++◌, List, [], flat_map, slice_get, Some, refl, sym, ap, subst, append-nil, arith, ◌≢◌, Bool, if◌then◌else◌, Option, None, ◌+◌, ◌-◌, ◌≤◌}
-use Rattle.group_protocol.specs.ProposerRows.{last_round, on_campaign}
-use Rattle.group_protocol.specs.Known.{front, next_serial, Response, on_typed, new_key, on_start}
+use Rattle.std.proofs.Common.{Contains, ◌≡◌, ◌∙◌, ℕ, ◌<◌, ◌++◌, List, [], flat_map, slice_get, Some, refl, sym, ap, subst, append-nil, arith, ◌≢◌, Bool, if◌then◌else◌, Option, None, ◌+◌, ◌-◌, ◌≤◌}
+use Rattle.group_protocol.specs.Known.{Response, on_start}
 use Rattle.group_world.proofs.CallCases.{campaign_cases, press_cases, start_cases}
 use Rattle.group_world.proofs.AskEnds.{tick_rests}
 use Rattle.std.proofs.lemmas.Bool.Decides.{nat_tests}
-use Rattle.group_world.proofs.OrderLists.{all_images}
+use Rattle.group_world.proofs.OrderLists.{of_filter_map}
+use Rattle.std.proofs.lemmas.Option.{same_Some}
 use Rattle.std.proofs.lemmas.List.Elements.{All-contains, All-nil}
 use Rattle.paxos_msg.specs.declared.message.Group.{Group}
 use Rattle.paxos_msg.specs.declared.value.Value.{Value}
 use Rattle.paxos_msg.specs.Batches.{Msg, Record, Change, Body}
-use Rattle.paxos_msg.specs.Datagrams.{Fits}
 use Rattle.paxos_msg.specs.Fits.{IsGroup}
 use Rattle.paxos_msg.specs.Keys.{Key, keys_of}
 use Rattle.group_protocol.specs.Protocol.{on_message}
 use Rattle.group_protocol.specs.Tick.{on_tick}
 use Rattle.group_node.specs.Output.{no_progress, Progress, IsReplay, RunsOn}
-use Rattle.group_protocol.specs.Packets.{Datagram}
 use Rattle.group_protocol.specs.Ranges.{IsFit, IsHeardFit, IsMember}
 use Rattle.group_protocol.specs.Steps.{IsLawfulCall}
 use Rattle.group_world.specs.Group.{IsDown, IsUp, me_of, message_of, messages_in, World, world_state, seat_of_member, up_of, with_member, member_at, new_world}
 use Rattle.group_world.specs.Member.{Member, Running, NodeCall, Makes, Refuses, call_of_campaign, call_of_press, call_of_start, failing, save_outcome, at_progress, member_after_release}
 use Rattle.group_world.specs.Sound.{IsSound, IsSpelling}
 use Rattle.std.specs.FinMap.{empty}
-use Rattle.group_world.proofs.WorldAsGroup.{RunsAt, is_node, running, called_state, member_state, changed_elsewhere, changed_here, SoundAt, first_node, stopped, nothing_shown}
+use Rattle.group_world.proofs.WorldAsGroup.{RunsAt, is_node, running, called_state, member_state, changed_elsewhere, changed_here, SoundAt, first_node, stopped}
 use Rattle.group_world.proofs.laws.sound.deeds_keep_it_sound.Answers.SoundAfterChange.{Laws, MayMake, call_sound, crash_sound, fall_sound, release_sound, run_sound}
 use Rattle.pcode_machine.specs.Configuration.{Configuration}
 use Rattle.pcode_machine.specs.Runs.{after_steps, begin, out}
@@ -34,7 +32,7 @@ use Rattle.group_node.specs.States.{input}
 use Rattle.group_node.specs.Deeds as deed
 use Rattle.group_node.specs.Deeds.{Deed}
 use Rattle.group_node.specs.World as group
-use Rattle.group_node.specs.World.{Sits, WorldStep, after_call, with_seat, ChangesOnly, WorldState, after_release}
+use Rattle.group_node.specs.World.{Sits, WorldStep, after_call, with_seat, ChangesOnly, WorldState}
 use Rattle.group_world.specs.declared.event.Done.{Done}
 use Rattle.group_world.specs.declared.event.Done.TheVariants.{Applied}
 use Rattle.group_world.specs.Deeds.{DoesDeed, EndsCall, Left, quietly}
@@ -68,12 +66,6 @@ fails_some saves plan is_kept e = grind (arith, nat_tests)
 one_of : (is_kept : Bool) {old new kept : Record} → old ≡ kept → IsOneOf (if is_kept then new else kept) old new
 one_of is_kept e = grind (arith, nat_tests)
 
--- each message that datagrams spell fits
-all_fit : (group : Group) (datagrams : List Datagram) → All (IsSpelling group) datagrams → All (Fits group) (messages_in group datagrams)
-all_fit group datagrams all =
-    all_images (Fits group) (message_of group) datagrams
-    (λ d among. let s = All-contains (IsSpelling group) datagrams d all among in rw s.read s.spells.fits)
-
 module _ (laws : Laws) {w : World} (h : IsSound w) {i : ℕ} {m : Member} {q : Running} (up : IsUp w i m q) where
   abbrev s : WorldState
   s = world_state w
@@ -105,38 +97,12 @@ module _ (laws : Laws) {w : World} (h : IsSound w) {i : ℕ} {m : Member} {q : R
   alone lawful fits = (rw append-nil lawful, fits)
 
   -- a typed byte, a campaign, a tick and a message are allowed
-  press_allowed : (byte : ℕ) → byte < 256 → length q.known.waiting ≢ 256 → next_serial q.known ≢ 4294967296
-      → IsAllowed (keys_of (new_key q.known byte)) (on_typed q.known byte)
-  press_allowed byte low ne other =
-      let ranges = sound.ranges in (
-        laws.calls_are_lawful.ensures.typed _ _ q.known byte ranges sound.backs,
-        laws.what_goes_out_fits.ensures.typed q.known byte ranges low (omega (arith, ranges.waiting.few, ne))
-            (omega (arith, ranges.waiting.fits, other)),
-      )
-
-  campaign_allowed : last_round q.known < 4294967295 → front q.known ≢ 65536 → IsAllowed [] (on_campaign q.known)
-  campaign_allowed low other =
-      let within = laws.one_front.ensures.few q.known.learner.learned sound.ranges.learner.window in
-      alone (laws.calls_are_lawful.ensures.campaign _ _ q.known sound.ranges sound.backs)
-      (laws.what_goes_out_fits.ensures.campaign q.known sound.ranges (omega (arith, low)) (omega (arith, within, other)))
-
-  tick_allowed : IsAllowed [] (on_tick q.known)
-  tick_allowed =
-      alone (laws.calls_are_lawful.ensures.tick _ _ q.known sound.ranges sound.backs)
-      (laws.what_goes_out_fits.ensures.tick q.known sound.ranges)
-
   -- a message that was sent has a spelling
   heard_fits : (message : Msg) → Contains (messages_in w.group w.sent) message → IsHeardFit q.known.me message.sender message.body
   heard_fits message heard =
-      rw sound.me_is (All-contains (Fits w.group) _ message (all_fit w.group w.sent h.spelled) heard)
-
-  message_allowed : (message : Msg) → Contains (messages_in w.group w.sent) message
-      → IsAllowed [] (on_message q.known message.sender message.body)
-  message_allowed message heard =
-      let fits = heard_fits message heard in
-      alone (laws.calls_are_lawful.ensures.message _ _ q.known _ message.body sound.ranges sound.backs
-      (record { is_sent = heard; fits = fits }))
-      (laws.what_goes_out_fits.ensures.message q.known _ message.body sound.ranges fits)
+      let (d, among, read) = of_filter_map (message_of w.group) w.sent message heard in
+      let spelling = All-contains (IsSpelling w.group) w.sent d h.spelled among in
+      rw (sound.me_is, ← same_Some _ _ (sym spelling.read ∙ read)) spelling.spells.fits
 
   -- the configuration of its machine
   abbrev configuration : Configuration
@@ -145,10 +111,7 @@ module _ (laws : Laws) {w : World} (h : IsSound w) {i : ℕ} {m : Member} {q : R
   -- the node is in its group
   sits : Sits s q.known configuration q.progress.released m.console
   sits =
-      record {
-        size = ap (λ (me : Me). me.group.size) (sym sound.me_is);
-        seat = ap (λ (me : Me). s.seats me.node) sound.me_is ∙ rw (up.there, up.up, sound.kept_is) refl;
-      }
+      grind (arith, sound.me_is, sound.kept_is)
 
   -- the same step, at the node's own number
   at_number : (P : ℕ → Type 0) → P q.known.me.node → P i
@@ -168,35 +131,41 @@ module _ (laws : Laws) {w : World} (h : IsSound w) {i : ℕ} {m : Member} {q : R
       let state =
       called_state laws.spelling_is_read.ensures.read w i m made q.progress keys up.there h.session (is_node i h up.there) may.fits in (
         may,
-        subst (WorldStep s i e) (sym (state ∙ ap (λ c.
-            after_call s i made (flat_map keys_of keys) c q.progress.released m.console) same))
-            (at_number (λ j. WorldStep s j e
-            (after_call s j made (flat_map keys_of keys) configuration q.progress.released m.console)) step),
+        rw (state, same) (rw sound.me_is at step),
         λ is_kept saves.
             let left = if is_kept then made.node.kept else m.kept in
-            subst (WorldStep s i e) (sym (member_state w i m (record { kept = left; console = m.console; node = None }) up.there))
-            (at_number (λ j. WorldStep s j e (with_seat s j (record { kept = left; console = m.console; up = None })))
-            (falls saves left (one_of is_kept sound.kept_is))),
+            rw (member_state w i m (record { kept = left; console = m.console; node = None }) up.there)
+            (rw sound.me_is at (falls saves left (one_of is_kept sound.kept_is))),
       )
 
   -- each of these calls
   press_steps : (byte : ℕ) → byte < 256 → StepsCall w (deed.Press byte) i m q.progress (call_of_press q.known byte)
   press_steps byte low =
       press_cases (StepsCall w (deed.Press byte) i m q.progress) (λ f. tt) q.known byte (λ ne other.
-      call_steps (deed.Press byte) _ _ (press_allowed byte low ne other)
+      let ranges = sound.ranges in
+      call_steps (deed.Press byte) _ _ (
+        laws.calls_are_lawful.ensures.typed _ _ q.known byte ranges sound.backs,
+        laws.what_goes_out_fits.ensures.typed q.known byte ranges low (omega (arith, ranges.waiting.few, ne))
+            (omega (arith, ranges.waiting.fits, other)),
+      )
       (laws.calls_are_deeds.ensures.press s q.known byte _ configuration m.console sits sound.ranges sound.backs)
       (λ saves. absurd (saves refl)))
 
   campaign_steps : StepsCall w deed.Campaign i m q.progress (call_of_campaign q.known)
   campaign_steps =
       campaign_cases (StepsCall w deed.Campaign i m q.progress) (λ f. tt) q.known (λ low other.
-      call_steps deed.Campaign _ [] (campaign_allowed low other)
+      let within = laws.one_front.ensures.few q.known.learner.learned sound.ranges.learner.window in
+      call_steps deed.Campaign _ []
+      (alone (laws.calls_are_lawful.ensures.campaign _ _ q.known sound.ranges sound.backs)
+      (laws.what_goes_out_fits.ensures.campaign q.known sound.ranges (omega (arith, low)) (omega (arith, within, other))))
       (laws.calls_are_deeds.ensures.campaign s q.known _ configuration m.console sits sound.ranges sound.backs)
       (λ saves left. laws.calls_are_deeds.ensures.falls_campaign s q.known _ left configuration m.console sits sound.ranges sound.backs))
 
   tick_steps : StepsCall w deed.Tick i m q.progress (Makes (on_tick q.known) [])
   tick_steps =
-      call_steps deed.Tick _ [] tick_allowed
+      call_steps deed.Tick _ []
+      (alone (laws.calls_are_lawful.ensures.tick _ _ q.known sound.ranges sound.backs)
+      (laws.what_goes_out_fits.ensures.tick q.known sound.ranges))
       (laws.calls_are_deeds.ensures.tick s q.known _ configuration m.console sits sound.ranges sound.backs)
       (λ saves. absurd (saves (tick_rests q.known).1))
 
@@ -204,7 +173,10 @@ module _ (laws : Laws) {w : World} (h : IsSound w) {i : ℕ} {m : Member} {q : R
       → StepsCall w (deed.Hear message) i m q.progress (Makes (on_message q.known message.sender message.body) [])
   hear_steps message heard =
       let fits = heard_fits message heard in
-      call_steps (deed.Hear message) _ [] (message_allowed message heard)
+      call_steps (deed.Hear message) _ []
+      (alone (laws.calls_are_lawful.ensures.message _ _ q.known _ message.body sound.ranges sound.backs
+      (record { is_sent = heard; fits = fits }))
+      (laws.what_goes_out_fits.ensures.message q.known _ message.body sound.ranges fits))
       (laws.calls_are_deeds.ensures.hear s q.known _ _ message.body configuration m.console sits sound.ranges sound.backs fits heard)
       (λ saves left.
       laws.calls_are_deeds.ensures.falls_hearing s q.known _ _ message.body left configuration m.console sits sound.ranges
@@ -212,13 +184,7 @@ module _ (laws : Laws) {w : World} (h : IsSound w) {i : ℕ} {m : Member} {q : R
 
   -- nothing changes but at node `i`, which is now this
   only_here : (new : Member) → ChangesOnly s (world_state (with_member w i new)) i [] []
-  only_here new = record {
-    program = refl;
-    size = refl;
-    others = λ j ne. ap seat_of_member (changed_elsewhere w.members i j m new up.there ne);
-    sent = sym (append-nil s.sent);
-    typed = sym (append-nil s.typed);
-  }
+  only_here new = grind (arith, changed_elsewhere, append-nil)
 
   -- node `i` is now this
   here : (new : Member) → (world_state (with_member w i new)).seats i ≡ seat_of_member (Some new)
@@ -258,7 +224,7 @@ module _ (laws : Laws) {w : World} (h : IsSound w) {i : ℕ} {m : Member} {q : R
       let seat : seat_of_member (Some (at_progress m q progress))
       ≡ group.seat_of q.known (after_steps w.program x (q.progress.steps + more)) q.progress.released m.console =
       rw (program, ← count, released, sound.kept_is) refl in
-      subst (WorldStep s i (deed.Run most)) (sym (member_state w i m (at_progress m q progress) up.there ∙ ap (with_seat s i) seat)) step
+      rw (member_state w i m (at_progress m q progress) up.there, seat) step
 
 -- a start
 module _ (laws : Laws) {w : World} (h : IsSound w) (i : ℕ) {m : Member} (down : IsDown w i m) where
@@ -287,21 +253,19 @@ module _ (laws : Laws) {w : World} (h : IsSound w) (i : ℕ) {m : Member} (down 
   start_steps : StepsCall w (deed.Start m.kept) i m (no_progress w.program) (call_of_start (me_of w i) m.kept)
   start_steps =
       start_cases (StepsCall w (deed.Start m.kept) i m (no_progress w.program)) (λ f. tt) _ m.kept (λ other.
-      let made = on_start _ m.kept in
+      let made = on_start (me_of w i) m.kept in
       let may = start_may other in
       let seated : (world_state w).seats i ≡ record { kept = m.kept; console = m.console; up = None } = rw (down.there, down.down) refl in
       let state =
-      called_state laws.spelling_is_read.ensures.read w i m made _ [] down.there h.session
+      called_state laws.spelling_is_read.ensures.read w i m made (no_progress w.program) [] down.there h.session
       (is_node i h down.there) may.fits
       ∙ ap (λ c. after_call (world_state w) i made [] c 0 m.console)
-      (first_configuration w.program _) in (
+      (first_configuration w.program (input made.node)) in (
         may,
-        subst (WorldStep (world_state w) i (deed.Start m.kept)) (sym state)
-            (laws.calls_are_deeds.ensures.start _ (me_of w i) m.kept m.console refl seated),
+        rw state (laws.calls_are_deeds.ensures.start _ (me_of w i) m.kept m.console refl seated),
         λ is_kept saves.
             let left = if is_kept then made.node.kept else m.kept in
-            subst (WorldStep (world_state w) i (deed.Start m.kept))
-            (sym (member_state w i m _ down.there))
+            rw (member_state w i m (record { kept = left; console = m.console; node = None }) down.there)
             (laws.calls_are_deeds.ensures.falls_start _ (me_of w i) m.kept left m.console seated (one_of is_kept refl)),
       ))
 
@@ -322,11 +286,6 @@ module _ (laws : Laws) {w : World} (h : IsSound w) (e : Deed) (i : ℕ) {m : Mem
       let (c, some) = fails_some made.saves plan is_kept one in
       rw (answer, leaves) (fall_sound laws h i there made may is_kept c some, falls is_kept (λ none. absurd cc))
 
-  -- the call, by what it is
-  call_goes_on : (call : NodeCall) → StepsCall w e i m progress call → Leaves w i m progress plan call d v → GoesOn w i e d v
-  call_goes_on (Refuses f) steps (answer, same) = rw (answer, same) (h, refl)
-  call_goes_on (Makes made keys) steps leaves = saves_go_on made keys _ refl steps leaves
-
 module _ (laws : Laws) {w v : World} (h : IsSound w) (i : ℕ) (m : Member) (there : member_at w.members i ≡ Some m) (plan : Option Bool)
     (left : Left) {d : Done} (answers : d ≡ left.answer) (leads : v ≡ world_after w i left) where
   -- a deed that sends and types nothing is answered so
@@ -336,8 +295,10 @@ module _ (laws : Laws) {w v : World} (h : IsSound w) (i : ℕ) (m : Member) (the
   -- a call of the node
   call_by : (e : Deed) (progress : Progress) (call : NodeCall) → StepsCall w e i m progress call
       → EndsCall (me_of w i) m progress plan call left → GoesOn w i e d v
-  call_by e progress call steps ends =
-      call_goes_on laws h e i there progress plan call steps (leaves_so w i m there progress plan call ends answers leads)
+  call_by e progress call steps ends = by call steps (leaves_so w i m there progress plan call ends answers leads) where
+    by : (call : NodeCall) → StepsCall w e i m progress call → Leaves w i m progress plan call d v → GoesOn w i e d v
+    by (Refuses f) steps (answer, same) = rw (answer, same) (h, refl)
+    by (Makes made keys) steps leaves = saves_go_on laws h e i there progress plan made keys _ refl steps leaves
 
   -- each deed, by what it is
   deed_goes_on : (e : Deed) → HearsOf w.group w.sent e → DoesDeed w.program (me_of w i) m plan e left → GoesOn w i e d v
@@ -365,8 +326,7 @@ module _ (laws : Laws) {w v : World} (h : IsSound w) (i : ℕ) (m : Member) (the
       rw (quiet_answer is, leads ∙ quiet_leads w i m there is)
       (release_sound laws h up_so, release_of laws h up_so (next_of q) (next_written q))
   deed_goes_on deed.Crash heard (q, up, is) =
-      rw (quiet_answer is, leads ∙ quiet_leads w i m there is)
-      (crash_sound laws h i there, crash_steps laws h (record { there = there; up = up }))
+      grind (arith, quiet_leads w i m there is, crash_sound laws h i there, crash_steps laws h (record { there = there; up = up }))
 
 -- Each deed keeps the world sound. One that is not refused is a step of the group, and one that is
 -- refused changes nothing.
@@ -382,21 +342,7 @@ nothing_sent there = absurd (omega (arith, there.1))
 
 module _ (laws : Laws) (p : Parts) (group : Group) where
   first_sound : (i : ℕ) → SoundAt (new_world p group) i (stopped empty_record)
-  first_sound i = record {
-    ranges = record { starts = omega arith; kept = refl };
-    backed =
-        record {
-          votes = laws.backing.ensures.empty [];
-          asked = λ b from own said. absurd (nothing_sent said.1);
-          own = λ b s v own said. absurd (nothing_sent said.1);
-        };
-    shown = nothing_shown p _ _;
-    running = tt;
-  }
-
-  no_record : (o : Option Member) → ((m : Member) → o ≡ Some m → stopped empty_record ≡ m)
-      → (seat_of_member o).kept ≡ empty_record
-  no_record o h = grind (arith, nat_tests, h)
+  first_sound i = grind arith
 
   pub begun_sound : IsSize group.size → IsGroup group → IsSound (new_world p group)
   begun_sound size session = record {
@@ -406,7 +352,7 @@ module _ (laws : Laws) (p : Parts) (group : Group) where
     spelled = All-nil _;
     grew =
         laws.growth.ensures.begins group.size (λ i. ((world_state (new_world p group)).seats i).kept)
-        (λ i. no_record _ (first_node p group i));
+        (λ i. grind (arith, nat_tests, first_node p group i));
     told = λ s v said. absurd (nothing_sent said.1);
     submitted = λ i v said. absurd (nothing_sent said);
     members = λ i m there. subst (SoundAt (new_world p group) i) (first_node p group i m there) (first_sound i);
