@@ -1,9 +1,10 @@
 -- A log of runs of processes as a log of nodes.
-use Rattle.std.proofs.lemmas.Option.{same_Some, slice_get-get_or, slice_get_within, get_or_from_slice_get}
+use Rattle.std.proofs.lemmas.List.Elements.{All-from_recursion, All-weaker, recursion_from_All}
+use Rattle.std.proofs.lemmas.Option.{slice_get-get_or, slice_get_within, get_or_from_slice_get}
 use Rattle.std.proofs.lemmas.List.{get_or-replicate, length-replicate}
 use Rattle.std.proofs.lemmas.List.FromFn.{get_or-map-range_with_len, length-map-range_with_len}
-use Rattle.std.proofs.Common.{◌≡◌, ◌∙◌, ℕ, zero, suc, ◌<◌, List, [], ◌∷◌, map, replicate, Some, None, refl, sym, ap, subst, arith}
-use Rattle.std.specs.List.{AllByRecursion, range_with_len}
+use Rattle.std.proofs.Common.{◌≡◌, ◌∙◌, ℕ, zero, suc, ◌<◌, List, [], map, replicate, Some, None, refl, sym, arith}
+use Rattle.std.specs.List.{range_with_len}
 use Rattle.pcode_file.specs.Parts.{Parts}
 use Rattle.paxos_msg.specs.declared.message.Group.{Group}
 use Rattle.paxos_msg.specs.Fits.{IsNode}
@@ -11,13 +12,8 @@ use Rattle.paxos_msg.specs.Records.{empty_record}
 use Rattle.paxos_acceptor.specs.declared.me.Me.{Me}
 use Rattle.group_world.specs.Group.{member_at, new_world}
 use Rattle.group_world.specs.Member.{Member}
-use Rattle.group_world.specs.Processes.{Entry, IsHistory, IsLog, entries_of}
+use Rattle.group_world.specs.Processes.{Entry, IsLog}
 use Rattle.group_process.specs.Runs.{AreHistory, AreRuns, Attempt, IsGroupLog, LeaveNodes}
-
--- what holds of each holds of each, if it follows
-all_weaker : {X : Type 0} (P Q : X → Type 0) → ((x : X) → P x → Q x) → (xs : List X) → AllByRecursion P xs → AllByRecursion Q xs
-all_weaker P Q f [] h = tt
-all_weaker P Q f (x ∷ xs) h = (f x h.0, all_weaker P Q f xs h.1)
 
 -- the node before all runs
 abbrev pub first : Member
@@ -36,15 +32,12 @@ nodes_of size state = map state (range_with_len 1 size)
 node_at : (size : ℕ) (state : ℕ → Member) (i : ℕ) → IsNode size i → member_at (nodes_of size state) i ≡ Some (state i)
 node_at size state zero is = absurd (omega (arith, is.0))
 node_at size state (suc k) is =
-    let within : k < size = omega (arith, is.1) in
-    slice_get-get_or (nodes_of size state) k first (omega (arith, length-map-range_with_len state 1 size))
-    ∙ ap (λ x. Some x) (get_or-map-range_with_len state 1 size k (suc k) first within (omega arith))
+    grind (arith, is.1, slice_get-get_or (nodes_of size state) k first, length-map-range_with_len, get_or-map-range_with_len)
 
 at_node : (size : ℕ) (state : ℕ → Member) (i : ℕ) (m : Member) → member_at (nodes_of size state) i ≡ Some m → state i ≡ m
 at_node size state zero m e = absurd cc
 at_node size state (suc k) m e =
-    let within : k < size = omega (arith, slice_get_within (nodes_of size state) k m e, length-map-range_with_len state 1 size) in
-    same_Some (state (suc k)) m (sym (node_at size state (suc k) (omega arith, omega arith)) ∙ e)
+    grind (arith, slice_get_within (nodes_of size state) k m e, length-map-range_with_len, node_at size state (suc k))
 
 -- each history of runs
 abbrev Law : Type 0
@@ -57,16 +50,14 @@ group_log law p group runs log h =
     let history : (i : ℕ) → AreHistory p (me i) first (runs i) = λ i. law p (me i) first (runs i) refl (h.started i) in
     let state : ℕ → Member = λ i. (history i).0 in
     let now : List Member = nodes_of group.size state in
-    let all : (i : ℕ) → IsHistory p (me i) first (entries_of i log) (state i) =
-    λ i. subst (λ es. IsHistory p (me i) first es (state i)) (sym (h.entries i)) (history i).1 in
     let is_log : IsLog (new_world p group) log now =
     record {
       places = length-map-range_with_len state 1 group.size ∙ sym (length-replicate group.size first);
-      among = all_weaker (λ (e : Entry). IsNode group.size e.node) (λ (e : Entry). (m : Member) × (member_at now e.node ≡ Some m))
-          (λ e node. (state e.node, node_at group.size state e.node node)) log h.among;
-      nodes = λ i m last m_at last_at.
-          subst (λ x. IsHistory p (me i) x (entries_of i log) last) (first_at group.size i m m_at)
-          (subst (λ x. IsHistory p (me i) first (entries_of i log) x) (at_node group.size state i last last_at) (all i));
+      among = recursion_from_All _ log
+          (All-weaker (λ (e : Entry). IsNode group.size e.node) (λ (e : Entry). (m : Member) × (member_at now e.node ≡ Some m))
+          (λ e node. (state e.node, node_at group.size state e.node node)) log (All-from_recursion _ log h.among));
+      nodes = λ i m last m_at last_at. rw
+          (sym (first_at group.size i m m_at), sym (at_node group.size state i last last_at), h.entries i) (history i).1;
       carried = h.carried;
     } in
     (now, record { ran = h; nodes = is_log; as_run = λ i node. (state i, node_at group.size state i node, (history i).2) })

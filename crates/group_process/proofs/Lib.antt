@@ -3,6 +3,5 @@ mod RunHistories
 mod GroupLogs
 mod RunFronts
 mod RunsShow
-mod ConsolesOfRuns
 mod RunsMayHear
 mod NetworksCarry

@@ -1,17 +1,14 @@
 -- Node 1 of any group starts, campaigns, and hears its own Prepare: a log of runs in which a message
 -- is heard.
 use Rattle.std.proofs.lemmas.Bool.{cases_eq, ne_eqb}
-use Rattle.std.proofs.Common.{◌≡◌, ◌∙◌, ℕ, ◌==◌, ◌≤◌, Bool, if◌then◌else◌, List, [], ◌∷◌, flat_map, length, Some, None, inl, inr, refl, sym, subst, arith}
+use Rattle.std.proofs.Common.{◌≡◌, ℕ, ◌==◌, ◌≤◌, if◌then◌else◌, List, [], ◌∷◌, flat_map, length, Some, None, inl, inr, refl, sym, arith}
 use Rattle.std.proofs.lemmas.List.{append-nil}
 use Rattle.std.proofs.lemmas.List.FromFn.{get_or-map-range_with_len, length-map-range_with_len}
-use Rattle.std.proofs.lemmas.Option.{same_Some}
+use Rattle.std.proofs.lemmas.Bool.Decides.{nat_tests}
 use Rattle.std.specs.List.{Contains}
-use Rattle.std.specs.FinMap.{FinMap, empty, entries, len-empty, len-entries}
-use Rattle.std.specs.Ordering.{nat_cmp}
 use Rattle.pcode_file.specs.Parts.{Parts}
 use Rattle.paxos_msg.specs.declared.message.Group.{Group}
 use Rattle.paxos_msg.specs.declared.message.Body.TheVariants.{Prepare}
-use Rattle.paxos_msg.specs.declared.value.Value.{Value}
 use Rattle.paxos_msg.specs.Batches.{Msg}
 use Rattle.paxos_msg.specs.Datagrams.{Fits, spelling}
 use Rattle.paxos_msg.specs.Fits.{IsGroup}
@@ -31,22 +28,7 @@ use Rattle.group_wire.specs.Traffic.{Letter, letters_of, letters_to}
 use Rattle.group_world.specs.declared.event.Outcome.TheVariants.{Kept}
 use Rattle.group_process.specs.Network.{AreDelivered, AreLetters, IsNetworkLog, MayHear, Received, entries_alone, received_by, received_in, received_in_run}
 use Rattle.group_process.specs.Runs.{AreRuns, Attempt, GoesOn, IsGroupLog, NodeRun, Starts, entry_by}
-use Rattle.group_protocol.proofs.Elements.{none_in, only_in}
-
--- the front of a node that has learned nothing
-no_entries : {X : Type 0} (xs : List X) → length xs ≡ 0 → xs ≡ []
-no_entries [] e = refl
-no_entries (x ∷ xs) e = absurd (omega arith)
-
-abbrev nothing : FinMap nat_cmp Value
-nothing = empty
-
-entries_none : entries nothing ≡ []
-entries_none = no_entries _ (sym (len-entries nothing) ∙ len-empty nat_cmp Value)
-
--- the size is not 0
-one_at_least : (size : ℕ) → IsSize size → 1 ≤ size
-one_at_least size h = let odd = h.odd in omega arith
+use Rattle.group_protocol.proofs.Elements.{entries_none, none_in, only_in}
 
 module _ (p : Parts) (group : Group) where
   abbrev me : Me
@@ -92,10 +74,7 @@ module _ (p : Parts) (group : Group) where
   front_is = rw entries_none refl
 
   fits : 1 ≤ group.size → Fits group prepare
-  fits size = (
-    (omega arith, size),
-    (((omega arith, omega arith), (omega arith, size)), refl, omega (arith, front_is)),
-  )
+  fits size = grind (arith, nat_tests, front_is)
 
   module _ (one : 1 ≤ group.size) (short : length (spelling group prepare) ≤ 440) where
     spells : Spells group (spelling group prepare) prepare
@@ -113,18 +92,12 @@ module _ (p : Parts) (group : Group) where
 
     are_runs : (i : ℕ) → AreRuns p (record { node = i; group = group }) empty_record (runs i)
     are_runs i = elim (cases_eq 1 i) [
-      | inl same ↦
-          subst (λ (k : ℕ). AreRuns p (record { node = k; group = group }) empty_record (runs k)) same ((refl, is_process, refl), tt)
-      | inr ne ↦
-          subst (λ (b : Bool). AreRuns p (record { node = i; group = group }) empty_record (if b then Starts run ∷ [] else []))
-          (sym (ne_eqb 1 i ne)) tt
+      | inl same ↦ rw (sym same) ((refl, is_process, refl), tt)
+      | inr ne ↦ rw (ne_eqb 1 i ne) tt
     ]
 
   entries_are : (i : ℕ) → received_by i log ≡ flat_map (received_in (record { node = i; group = group })) (runs i)
-  entries_are i = elim (cases_eq 1 i) [
-    | inl same ↦ subst (λ (k : ℕ). received_by k log ≡ flat_map (received_in (record { node = k; group = group })) (runs k)) same refl
-    | inr ne ↦ rw (ne_eqb 1 i ne) refl
-  ]
+  entries_are i = grind (arith, nat_tests)
 
   -- the Prepare was handed over as a letter to each node
   some_letter : (bytes : List ℕ) → 1 ≤ group.size → (l : Letter) × Contains (letters_to group.size whom.All bytes) l × (l.bytes ≡ bytes)
@@ -135,23 +108,16 @@ module _ (p : Parts) (group : Group) where
       (l, (0, omega (arith, long, size), get_or-map-range_with_len letter 1 group.size 0 1 l (omega (arith, size)) (omega arith)), refl)
 
   delivered : 1 ≤ group.size → AreDelivered group [] log
-  delivered size = (
-    none_given [],
-    (
-      none_given [],
-      (
-        (λ bytes m came said.
-            let (l, handed, is) = some_letter (spelling group prepare) size in
-            let sent : letters_of group.size campaigning.sent ≡ letters_to group.size whom.All (spelling group prepare) = append-nil _ in
-            let same : Some (spelling group prepare) ≡ Some bytes = only_in _ _ came in
-            (l, subst (λ ls. Contains ls l) (sym sent) handed, is ∙ same_Some _ _ same)),
-        tt,
-      ),
-    ),
-  )
+  delivered size = (none_given [], (none_given [], (heard, tt)))
     where
       none_given : (letters : List Letter) → AreLetters group letters []
       none_given letters bytes m came said = absurd (none_in (Some bytes) came)
+
+      heard : AreLetters group (letters_of group.size campaigning.sent) hearing.given
+      heard bytes m came said =
+          let (l, handed, is) = some_letter (spelling group prepare) size in
+          let same : Some (spelling group prepare) ≡ Some bytes = only_in _ _ came in
+          (l, rw append-nil handed, cc)
 
   -- the laws of networks and of lengths
   abbrev CarryLaw : Type 0
@@ -163,13 +129,11 @@ module _ (p : Parts) (group : Group) where
 
   pub may_hear : CarryLaw → ShortLaw → IsSize group.size → IsGroup group → MayHear p group
   may_hear carry shorts size session =
-      let one = one_at_least group.size size in
-      let short = shorts group prepare (fits one) in
-      let is_log : IsNetworkLog p group runs log =
-      record {
+      let one : 1 ≤ group.size = omega (arith, size.odd) in
+      let is_log : IsNetworkLog p group runs log = record {
         among = ((omega arith, one), ((omega arith, one), ((omega arith, one), tt)));
         entries = entries_are;
-        started = are_runs one short;
+        started = are_runs one (shorts group prepare (fits one));
         delivered = delivered one;
       } in (
         runs,

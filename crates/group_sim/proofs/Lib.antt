@@ -1,4 +1,2 @@
 pub mod Writing
-pub mod Turns
 pub mod Lines
-pub mod Halting

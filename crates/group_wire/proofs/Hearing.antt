@@ -1,25 +1,23 @@
 -- Messages that a node hears one after the other.
-use Rattle.std.proofs.Common.{rules, None, ◌≡◌, ◌≢◌, ◌+◌, ◌≤◌, ◌⊎◌, ◌↔◌, ℕ, Bool, true, List, [], ◌∷◌, ◌++◌, length, Option, Some, Result, Ok, Err, IfErr, IsErrOf, refl, sym, ap, ◌∙◌, arith, append-nil, append_assoc}
+use Rattle.std.proofs.Common.{rules, None, ◌≡◌, ◌≢◌, ◌+◌, ◌≤◌, ℕ, Bool, true, List, [], ◌∷◌, ◌++◌, length, Option, Some, Result, Ok, Err, refl, arith, append-nil, append_assoc}
 use Rattle.std.proofs.lemmas.List.Elements.{All-append, All-cons, All-nil, filter_map-append}
 use Rattle.std.proofs.lemmas.List.Sums.{sum_by-append}
 use Rattle.std.proofs.lemmas.Grind.{common_steps}
 use Rattle.paxos_msg.specs.declared.message.Group.{Group}
 use Rattle.paxos_msg.specs.Batches.{Msg}
-use Rattle.paxos_acceptor.specs.Stores.{CountsIf, IsOneOf, StoreKind}
+use Rattle.paxos_acceptor.specs.Stores.{IsOneOf, StoreKind}
 use Rattle.group_protocol.specs.declared.fault.NodeFault.{NodeFault}
-use Rattle.group_protocol.specs.declared.fault.NodeFault.TheVariants.{Memory, OutboxFull, Stopped, Store}
+use Rattle.group_protocol.specs.declared.fault.NodeFault.TheVariants.{Store}
 use Rattle.group_protocol.specs.Protocol.{on_message}
 use Rattle.group_protocol.specs.Known.{Known}
 use Rattle.group_protocol.specs.Packets.{Datagram, datagrams_of}
-use Rattle.group_protocol.specs.Calls.{RefusesUnlessLet}
-use Rattle.group_protocol.specs.States.{Protocol}
 use Rattle.group_node.specs.States.{NodeState}
 use Rattle.group_wire.specs.declared.answers.Received.{Received}
 use Rattle.group_wire.specs.declared.answers.Received.TheVariants as answer
 use Rattle.group_wire.specs.Traffic.{Receives, Traffic, grown, handed, letters_of}
-use Rattle.group_wire.specs.Arrivals.{Arrival, Ending, Fate, Hears, Loses, NoMessage, NoneCame, TooLong, GoesOn, Refuses, IsFateOf, Spells, heard_of, loss_of, lost_of, heard_message, received}
-use Rattle.group_wire.specs.Turns.{FailsAtEnd, HearsSome, IsHearingRefused, IsOne, IsWireTurn, TellsOfOne, answer_of}
-use Rattle.group_wire.specs.Doings.{after_fate, after_heard, hearing, last_receiving, receives, receiving, ticked_if, ticking, transfers_of}
+use Rattle.group_wire.specs.Arrivals.{Arrival, Ending, Fate, Hears, NoneCame, GoesOn, Refuses, IsFateOf, Spells, heard_of, loss_of, lost_of, heard_message, received}
+use Rattle.group_wire.specs.Turns.{FailsAtEnd, HearsSome, IsOne, IsWireTurn, TellsOfOne, answer_of}
+use Rattle.group_wire.specs.Doings.{after_fate, after_heard, hearing, receives, ticked_if, ticking, transfers_of}
 use Rattle.std.specs.List.{cons_option}
 use Rattle.paxos_acceptor.specs.declared.me.Me.{Me}
 use Rattle.group_wire.proofs.Carrying.{grown_twice, passed_then}
@@ -39,26 +37,20 @@ lost_of_both came later = search (rules, sum_by-append)
 -- a node after one datagram, and then others
 pub after_came : (n : Known) (fate : Fate) (rest : List Msg)
     → after_heard n (cons_option (heard_message fate) rest) ≡ after_heard (after_fate n fate) rest
-after_came n (Hears m) rest = refl
-after_came n (Loses m) rest = refl
-after_came n TooLong rest = refl
-after_came n NoMessage rest = refl
+after_came n fate rest = grind arith
 
 -- the deeds at some datagrams, and then at others
 receives_then : (me : Me) (n : Known) (came later : List Arrival)
     → receives me n (came ++ later) ≡ receives me n came ++ receives me (after_heard n (heard_of came)) later
 receives_then me n [] later = refl
 receives_then me n (a ∷ came) later =
-    ap (λ more. receiving me n a ∷ more)
-    (receives_then me (after_fate n a.fate) came later
-    ∙ ap (λ k. receives me (after_fate n a.fate) came ++ receives me k later) (sym (after_came n a.fate (heard_of came))))
+    rw (receives_then me (after_fate n a.fate) came later, after_came n a.fate (heard_of came)) refl
 
 -- hearing that goes on, and then more of it, as deeds
 hearing_then : (me : Me) (n : Known) (came later : List Arrival) (ending : Ending)
     → hearing me n (came ++ later) ending ≡ hearing me n came GoesOn ++ hearing me (after_heard n (heard_of came)) later ending
 hearing_then me n came later ending =
-    rw (receives_then me n came later, append-nil (receives me n came))
-    (append_assoc (receives me n came) (receives me (after_heard n (heard_of came)) later) (last_receiving ending))
+    grind (arith, receives_then me n came later, append-nil, append_assoc)
 
 -- a node that has heard some, and then others
 hears_then : {S : Type 0} {came later : List Arrival} {ending : Ending} {old mid new : NodeState S} {from via to : Option Traffic}
@@ -66,15 +58,8 @@ hears_then : {S : Type 0} {came later : List Arrival} {ending : Ending} {old mid
     → HearsSome came GoesOn old mid from via
     → HearsSome later ending mid new via to
     → HearsSome (came ++ later) ending old new from to
-hears_then {S} {came} {later} {ending} {old} {mid} {new} {from} {via} {to} stays first second =
+hears_then {S} {came} {later} {ending} {old} stays first second =
     let n : Known = old.protocol.known in
-    let next : Known = mid.protocol.known in
-    let both : transfers_of n.me (hearing n.me n (came ++ later) ending)
-    ≡ transfers_of n.me (hearing n.me n came GoesOn) ++ transfers_of next.me (hearing next.me next later ending) =
-    ap (transfers_of n.me) (hearing_then n.me n came later ending)
-    ∙ passed_then n.me (hearing n.me n came GoesOn) (hearing n.me (after_heard n (heard_of came)) later ending)
-    ∙ (λ t. transfers_of n.me (hearing n.me n came GoesOn) ++ transfers_of (sym first.me t)
-    (hearing (sym first.me t) (sym first.known t) later ending)) in
     record {
       arrivals = record {
         fates =
@@ -82,13 +67,11 @@ hears_then {S} {came} {later} {ending} {old} {mid} {new} {from} {via} {to} stays
             (rw first.me at second.arrivals.fates);
         last = rw first.me at second.arrivals.last;
         deaf = λ stopped.
-            let one = first.arrivals.deaf stopped in
-            let other = second.arrivals.deaf (stays stopped) in
-            grind (arith, common_steps, heard_of_both, lost_of_both);
+            grind (arith, common_steps, heard_of_both, lost_of_both, first.arrivals.deaf stopped, second.arrivals.deaf (stays stopped));
       };
       known = grind (arith, common_steps, heard_then, heard_of_both);
       me = cc;
-      traffic = grown_twice _ _ _ _ _ _ first.traffic second.traffic both;
+      traffic = grown_twice _ _ _ _ _ _ first.traffic second.traffic (rw (hearing_then n.me n, passed_then n.me) cc);
       progress = cc;
     }
 
@@ -135,23 +118,6 @@ pub refuses_one : {S : Type 0} (kind : StoreKind S) {g : Group} {old new : NodeS
 refuses_one kind from to bytes m fault result group spelled known progress traffic told device =
     ([], Refuses bytes m, grind (arith, common_steps, All-nil), rw told (refl, tt), λ failed is_honest. rw known (device is_honest (cc)))
 
--- why a call of the node was refused, if memory did not run out: nothing waits to be sent
-pub refused_others : {S : Type 0} {fault : NodeFault} {old : Protocol S} {before : List Datagram} → before ≡ [] → fault ≢ Memory
-    → (fault ≡ Stopped) ⊎ (fault ≡ OutboxFull) ⊎ (fault ≡ Memory) ⊎ (fault ≡ Store)
-    → RefusesUnlessLet {T = Unit {0}} old before (Err fault) → (fault ≡ Stopped) ⊎ (fault ≡ Store)
-refused_others empty not others let_in = grind (arith, common_steps)
-
--- an answer that is a refusal where the call of the node was refused
-pub refused_as : {S : Type 0} {kind : StoreKind S} {old new : NodeState S} {before : List Datagram}
-    (done : Result (Unit {0}) NodeFault) (result : Result Received NodeFault)
-    → RefusesUnlessLet old.protocol before done
-    → (new.protocol.is_stopped ≡ true) ↔ ((old.protocol.is_stopped ≡ true) ⊎ IsErrOf done Store)
-    → CountsIf (IsErrOf done Store) (kind.state old.protocol.store).faults (kind.state new.protocol.store).faults
-    → (IsErrOf done Store → IsErrOf result Store) → (IsErrOf result Store → IsErrOf done Store)
-    → (IsErrOf result Stopped → IsErrOf done Stopped) → IfErr result (λ e. (e ≡ Stopped) ⊎ (e ≡ Store))
-    → IsHearingRefused kind old new result
-refused_as done result let_in stops cause to from closed others = grind (arith, common_steps)
-
 -- ---- several receives
 
 -- how many messages an answer calls lost
@@ -184,9 +150,7 @@ hears_one_more h stays (came, first, many, losses) (later, ending, second, told,
 
 -- one receive more than datagrams came, at most
 pub few_received : (came : List Arrival) (ending : Ending) → length (received came ending) ≤ length came + 1
-few_received came GoesOn = grind (arith, common_steps)
-few_received came NoneCame = grind (arith, common_steps)
-few_received came (Refuses bytes m) = grind (arith, common_steps)
+few_received came ending = grind (arith, common_steps)
 
 -- a node that has heard some, and then no more
 pub hears_no_more : {S : Type 0} {came later : List Arrival} {ending : Ending} {old mid new : NodeState S} {from via to : Option Traffic}
@@ -203,16 +167,8 @@ pub turn_is : {S : Type 0} {came : List Arrival} {ending : Ending} {ticks : Bool
     → HearsSome came ending old mid from via → new.protocol.known ≡ (ticked_if ticks mid.protocol.known).node
     → to ≡ grown via (transfers_of mid.protocol.known.me (ticking mid.protocol.known.me ticks mid.protocol.known))
     → IsWireTurn came ending old new from to ticks
-turn_is {S} {came} {ending} {ticks} {old} {mid} via h known last =
-    let n : Known = old.protocol.known in
-    let next : Known = mid.protocol.known in
-    let heard : Known = after_heard n (heard_of came) in
-    let both : transfers_of n.me (hearing n.me n came ending ++ ticking n.me ticks heard)
-    ≡ transfers_of n.me (hearing n.me n came ending) ++ transfers_of next.me (ticking next.me ticks next) =
-    passed_then n.me (hearing n.me n came ending) (ticking n.me ticks heard)
-    ∙ (λ t. transfers_of n.me (hearing n.me n came ending) ++ transfers_of (sym h.me t) (ticking (sym h.me t) ticks (sym h.known t))) in
-    record {
-      arrivals = h.arrivals;
-      known = rw (← h.known) known;
-      traffic = grown_twice _ _ _ _ _ _ h.traffic last both;
-    }
+turn_is {old = old} via h known last = record {
+  arrivals = h.arrivals;
+  known = rw (← h.known) known;
+  traffic = grown_twice _ _ _ _ _ _ h.traffic last (rw (passed_then old.protocol.known.me) cc);
+}

@@ -3,4 +3,3 @@ pub mod Hearing
 pub mod Going
 mod Acting
 mod Typing
-mod Receiving

@@ -1,5 +1,5 @@
 -- Bytes that are typed, one after the other, as deeds.
-use Rattle.std.proofs.Common.{◌≡◌, ◌∙◌, ℕ, ◌<◌, Bool, true, if◌then◌else◌, List, [], ◌∷◌, ◌++◌, map, Result, refl, sym, ap, subst, append-nil, append_assoc}
+use Rattle.std.proofs.Common.{◌≡◌, ◌∙◌, ℕ, ◌<◌, Bool, true, if◌then◌else◌, List, [], ◌∷◌, ◌++◌, map, Result, refl, sym, ap, subst, append-nil, append_assoc, arith}
 use Rattle.paxos_acceptor.specs.declared.me.Me.{Me}
 use Rattle.group_protocol.specs.declared.fault.NodeFault.{NodeFault}
 use Rattle.group_protocol.specs.Known.{Known, on_typed}
@@ -19,7 +19,7 @@ pressed_none : (n : Known) → after_pressed n [] ≡ n
 pressed_none n = ap (λ waiting. record n { waiting = waiting }) (append-nil n.waiting)
 
 -- one byte more
-pub typed_more : (n : Known) (typed : List ℕ) (byte : ℕ) → AreTyped n typed → byte < 256 → HasKeyRoom (after_pressed n typed)
+typed_more : (n : Known) (typed : List ℕ) (byte : ℕ) → AreTyped n typed → byte < 256 → HasKeyRoom (after_pressed n typed)
     → AreTyped n (typed ++ byte ∷ [])
 typed_more n [] byte all low room = (low, subst HasKeyRoom (pressed_none n) room, tt)
 typed_more n (x ∷ typed) byte (first, has, rest) low room =
@@ -31,13 +31,7 @@ pub types_on : {n now new : Known} {before rest others : List ℕ} (byte : ℕ) 
     → has ≡ true → new ≡ (if has then after_pressed now (byte ∷ []) else now) → (has ≡ true → HasKeyRoom now) → byte < 256
     → (typed : List ℕ) × (before ≡ typed ++ others) × (new ≡ after_pressed n typed) × AreTyped n typed
 types_on {n} {now} {new} {before} {rest} {others} byte has (typed, whole, now_is, all) next has_is new_is room low =
-    let here : new ≡ after_pressed now (byte ∷ []) = rw has_is at new_is in (
-      typed ++ byte ∷ [],
-      whole ∙ ap (λ bytes. typed ++ bytes) next ∙ sym (append_assoc typed (byte ∷ []) others),
-      here ∙ ap (λ (k : Known). after_pressed k (byte ∷ [])) now_is
-          ∙ ap (λ waiting. record n { waiting = waiting }) (append_assoc n.waiting typed (byte ∷ [])),
-      typed_more n typed byte all low (subst HasKeyRoom now_is (room has_is)),
-    )
+    grind (arith, append_assoc, typed_more n typed byte all low (rw now_is at room has_is))
 
 -- nothing passes over the wire
 pressing_passes : (me : Me) (n : Known) (bytes : List ℕ) → transfers_of me (pressing n bytes) ≡ []
@@ -49,12 +43,8 @@ pressing_does : (me : Me) (w : Working) (bytes : List ℕ) → AreTyped w.known 
     → DoesAll me w (pressing w.known bytes) (record w { known = after_pressed w.known bytes })
 pressing_does me w [] all = ap (λ (n : Known). record w { known = n }) (pressed_none w.known)
 pressing_does me w (byte ∷ bytes) (low, room, rest) =
-    let mid : Working = record w { known = (on_typed w.known byte).node } in (
-      mid,
-      (low, room.0, room.1, refl, (refl, refl, refl)),
-      subst (λ (n : Known). DoesAll me mid (pressing mid.known bytes) (record w { known = n })) (pressed_on w.known byte bytes)
-          (pressing_does me mid bytes rest),
-    )
+    let mid : Working = record w { known = (on_typed w.known byte).node } in
+    (mid, (low, room.0, room.1, refl, (refl, refl, refl)), rw (← pressed_on w.known byte bytes) (pressing_does me mid bytes rest))
 
 -- each byte is a prompt
 pressing_prompts : (n : Known) (bytes : List ℕ) → prompts_of (pressing n bytes) ≡ map Press bytes
@@ -73,8 +63,7 @@ typing_acts {old = old} {new} h =
         pressing w.known h.typed,
         record {
           me = ap (λ (n : Known). n.me) h.known;
-          does = subst (DoesAll me w (pressing w.known h.typed)) (λ t. record { known = sym h.known t; progress = sym h.progress t })
-              (pressing_does me w h.typed h.room);
+          does = rw (h.known, h.progress) (pressing_does me w h.typed h.room);
           traffic = nothing_passed passed_before ∙ ap (grown passed_before) (sym (pressing_passes me w.known h.typed));
         },
         pressing_prompts w.known h.typed,

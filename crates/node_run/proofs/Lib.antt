@@ -2,7 +2,5 @@ mod Going
 mod Starting
 mod Pressing
 mod Releasing
-mod Consoles
 mod Writing
-mod Showing
 mod Running

@@ -1,6 +1,6 @@
 -- What a keyboard gives, and what is typed of it.
 use Rattle.std.proofs.Common.{◌≡◌, ◌∙◌, inl, inr, ℕ, ◌+◌, ◌≤◌, false, List, [], ◌∷◌, ◌++◌, length, map, Option, Result, Ok, Err, refl, sym, ap, arith, append-nil}
-use Rattle.std.proofs.lemmas.List.{length-append}
+use Rattle.std.proofs.lemmas.List.{length-append, nil_from_length}
 use Rattle.paxos_acceptor.specs.Stores.{StoreKind}
 use Rattle.group_protocol.specs.declared.fault.NodeFault.{NodeFault}
 use Rattle.group_protocol.specs.declared.fault.NodeFault.TheVariants.{SerialSpent}
@@ -13,91 +13,50 @@ use Rattle.group_udp.specs.declared.fault.GroupFault.{GroupFault}
 use Rattle.group_udp.specs.declared.fault.GroupFault.TheVariants as group
 use Rattle.node_run.specs.declared.press.Pressed.{Pressed}
 use Rattle.node_run.specs.declared.press.Pressed.TheVariants.{Bytes, Campaigned, CampaignRefused, Ignored}
-use Rattle.node_run.specs.Going.{Around, FailsAt, HasEnded, HasGoneOn, around}
+use Rattle.node_run.specs.Going.{Around, HasEnded, HasGoneOn, around}
 use Rattle.node_run.specs.Pressing.{HasCampaignedAsAsked, HasPressedKeyboard, HasTypedGiven}
 use Rattle.group_udp.specs.Prompts.{Remaining, with_gift}
-use Rattle.node_run.proofs.Going.{gift_both, prompted_campaign, prompted_lost, prompted_refused, prompted_typed}
+use Rattle.node_run.proofs.Going.{gift_both, prompted, prompted_lost, prompted_typed, save_ended}
 
 -- where all of some bytes have room, none is left
 none_left : {S : Type 0} {old new : NodeState S} {before after : List ℕ} → HasPressed old new before after (Ok tt)
     → length old.protocol.known.waiting + length before ≤ 256 → after ≡ []
-none_left {after = after} h room = elim h.full [
-  | inl none ↦ none
-  | inr full ↦ by after (grind (arith, length-append, h.bytes, h.known, full, room))
-]
-  where
-    by : (xs : List ℕ) → length xs ≡ 0 → xs ≡ []
-    by [] none = refl
-    by (x ∷ xs) some = absurd cc
+none_left {after = after} h room = grind (arith, length-append, nil_from_length after, h.full, h.bytes, h.known)
 
 -- all that was given is typed
 pub typed_all : {S : Type 0} {old new : NodeState S} {bytes before after : List ℕ} {from : Option Remaining} (to : Option Remaining)
     → HasPressed old new before after (Ok tt) → ActsTyping old new before after → before ≡ bytes
     → length old.protocol.known.waiting + length bytes ≤ 256 → from ≡ with_gift (map Press bytes) to → HasTypedGiven old new from to (Ok tt)
-typed_all to h (typed, whole, acts) same room given =
-    let none = none_left h (rw same room) in
-    let all = sym same ∙ whole ∙ ap (λ rest. typed ++ rest) none ∙ append-nil typed in
-    (typed, given ∙ ap (λ bs. with_gift (map Press bs) to) all, acts)
+typed_all to h (typed, whole, acts) same room given = let none = none_left h (rw same room) in (typed, grind (arith, append-nil), acts)
 
 -- the first of it are typed
 pub typed_some : {S : Type 0} {old new : NodeState S} {bytes before after : List ℕ} {from : Option Remaining} (to : Option Remaining)
-    (e : NodeFault)
-    → HasPressed old new before after (Err e) → ActsTyping old new before after → before ≡ bytes → old.protocol.is_stopped ≡ false
-    → from ≡ with_gift (map Press bytes) to → HasTypedGiven old new from to (Err (group.Node e))
+    (e : NodeFault) → HasPressed old new before after (Err e) → ActsTyping old new before after → before ≡ bytes
+    → old.protocol.is_stopped ≡ false → from ≡ with_gift (map Press bytes) to → HasTypedGiven old new from to (Err (group.Node e))
 typed_some {after = after} to e h (typed, whole, acts) same works given =
-    let spent : e ≡ SerialSpent = elim h.others [
-      | inl stopped ↦ let closed = (h.stopped.0 (ap Err stopped)).0 in absurd cc
-      | inr spent ↦ spent
-    ] in (
-      typed,
-      after,
-      ap group.Node spent,
-      given ∙ ap (λ bs. with_gift (map Press bs) to) (sym same ∙ whole),
-      rw spent
-          (h.spent.0 (ap Err spent)).3,
-      acts,
-    )
+    let spent : e ≡ SerialSpent = grind (arith, h.others, h.stopped) in
+    let all = given ∙ ap (λ bs. with_gift (map Press bs) to) (sym same ∙ whole) in
+    (typed, after, ap group.Node spent, all, rw spent (h.spent.0 (ap Err spent)).3, acts)
 
 -- ---- what the node did with it
 
-pub pressed_on : {S : Type 0} (kind : StoreKind S) {old new : NodeState S} {from to : Around}
-    (pressed : Pressed)
+pub pressed_on : {S : Type 0} (kind : StoreKind S) {old new : NodeState S} {from to : Around} (pressed : Pressed)
     → HasPressedKeyboard kind old new from to (Ok pressed) → HasGoneOn [] old new from to 0
 pressed_on kind Bytes (typed, given, acts) =
     record { gift = map Press typed; prompts = map Press typed; given = given; acts = acts; prompted = prompted_typed typed }
 pressed_on kind Campaigned (given, asked) =
-    record { gift = Campaign ∷ []; prompts = Campaign ∷ []; given = given; acts = asked.1; prompted = prompted_campaign }
+    record { gift = Campaign ∷ []; prompts = Campaign ∷ []; given = given; acts = asked.1; prompted = prompted refl (omega arith) refl }
 pressed_on kind Ignored (given, asked) =
-    record { gift = Campaign ∷ []; prompts = []; given = given; acts = asked.1; prompted = prompted_refused }
+    record { gift = Campaign ∷ []; prompts = []; given = given; acts = asked.1; prompted = prompted refl (omega arith) refl }
 pressed_on kind (CampaignRefused f) (given, refused) =
-    record { gift = Campaign ∷ []; prompts = []; given = given; acts = refused.4; prompted = prompted_refused }
+    record { gift = Campaign ∷ []; prompts = []; given = given; acts = refused.4; prompted = prompted refl (omega arith) refl }
 
 -- typing that spent the serials
-pub typing_ended : {S : Type 0} {old new : NodeState S} (passed : Option Traffic) {from to : Option Remaining} {e : GroupFault}
+typing_ended : {S : Type 0} {old new : NodeState S} (passed : Option Traffic) {from to : Option Remaining} {e : GroupFault}
     → HasTypedGiven old new from to (Err e) → HasEnded [] old new (around passed from) (around passed to) 0 e
-typing_ended passed (typed, lost, spent, given, due, acts) = record {
-  gift = map Press (typed ++ lost);
-  prompts = map Press typed;
-  given = given;
-  fails = λ store. absurd cc;
-  acts = λ _. acts passed;
-  prompted = prompted_lost typed lost (λ not. absurd (not spent));
-  due = due;
-}
-
--- a campaign that was asked for, and failed to save
-pub campaign_ended : {S : Type 0} {old new : NodeState S} {from to : Option Traffic} {keys left : Option Remaining} {e : GroupFault}
-    → FailsAt old new from to (Campaign ∷ []) e → keys ≡ with_gift (Campaign ∷ []) left
-    → HasEnded [] old new (around from keys) (around to left) 0 e
-campaign_ended h given = record {
-  gift = Campaign ∷ [];
-  prompts = Campaign ∷ [];
-  given = given;
-  fails = λ _. h.fails;
-  acts = λ not. absurd (not h.store);
-  prompted = prompted_campaign;
-  due = rw h.store tt;
-}
+typing_ended passed (typed, lost, spent, given, due, acts) =
+    let same = prompted_lost typed lost (λ not. absurd (not spent)) in
+    grind (arith, map Press (typed ++ lost), map Press typed, acts passed, same)
 
 -- a campaign that was asked for, by its answer
 pub asked_pressed : (S : Type 0) (kind : StoreKind S) (old new : NodeState S) (from to : Option Traffic)
@@ -108,7 +67,8 @@ asked_pressed S kind old new from to keys left (Ok Bytes) h given = absurd h
 asked_pressed S kind old new from to keys left (Ok Campaigned) h given = (given, h)
 asked_pressed S kind old new from to keys left (Ok Ignored) h given = (given, h)
 asked_pressed S kind old new from to keys left (Ok (CampaignRefused f)) h given = (given, h)
-asked_pressed S kind old new from to keys left (Err e) (missing, h) given = (inl h.store, campaign_ended h given)
+asked_pressed S kind old new from to keys left (Err e) (missing, h) given =
+    (inl h.store, save_ended {gift = Campaign ∷ []} h given (prompted refl (omega arith) refl))
 
 -- typing, where no campaign was asked for
 pub bytes_pressed : {S : Type 0} (kind : StoreKind S) {old new : NodeState S} (at : Option Traffic)

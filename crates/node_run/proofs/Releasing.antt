@@ -1,14 +1,12 @@
 -- Bytes that are released one after the other, and what is written or shown of them.
-use Rattle.std.proofs.Common.{◌≡◌, ◌∙◌, inl, inr, ℕ, ◌+◌, ◌-◌, ◌<◌, ◌≤◌, List, [], ◌∷◌, ◌++◌, drop, length, Option, Some, None, option_map, slice_get, refl, ap, arith}
+use Rattle.std.proofs.Common.{◌≡◌, ℕ, ◌+◌, ◌-◌, ◌<◌, ◌≤◌, List, [], ◌∷◌, ◌++◌, drop, length, Option, Some, None, option_map, slice_get, arith}
 use Rattle.std.proofs.Math.Seq.{take-add, take-append_seam}
-use Rattle.std.proofs.lemmas.Bool.{cases_lt}
 use Rattle.std.proofs.lemmas.Grind.{common_steps}
 use Rattle.std.proofs.lemmas.List.{drop-append-le, drop-drop, drop_all}
 use Rattle.std.proofs.lemmas.Option.{slice_get_cases}
 use Rattle.std.specs.Io.KnownBytes.{Appends, Keeps}
 use Rattle.std.proofs.KnownBytes.{Appends-kept, Appends-nil, Appends-trans}
 use Rattle.group_node.specs.Output.{Progress, unreleased_of}
-use Rattle.group_protocol.specs.States.{Protocol}
 use Rattle.group_node.specs.States.{input}
 use Rattle.group_wire.specs.Turns.{released_of}
 use Rattle.node_run.specs.Output.{ReleasesBytes}
@@ -17,12 +15,6 @@ use Rattle.node_run.specs.Releases.{LosesOutput, NodeMoment, WritesAll}
 -- the first byte that waits, with its number
 abbrev pub next_of : List ℕ → Progress → Option (ℕ × ℕ)
 next_of x q = option_map (λ (b : ℕ). (q.released, b)) (slice_get (unreleased_of x q) 0)
-
--- one byte more is released
-pub releases_more : (x y : List ℕ) (old q new : Progress) (gone : List ℕ) (number byte : ℕ) → ReleasesBytes x old q gone → y ≡ x
-    → Some (number, byte) ≡ next_of y q → new ≡ record q { released = q.released + 1 }
-    → ReleasesBytes x old new (gone ++ byte ∷ []) × (number ≡ old.released + length gone)
-releases_more x y old q new gone number byte h same first more = grind (arith, common_steps, drop-drop, slice_get_cases)
 
 -- the bytes that were released, once others are
 pub released_on : (x : List ℕ) (old new : Progress) (gone : List ℕ) → ReleasesBytes x old new gone
@@ -39,12 +31,7 @@ pub record WritesSome {S : Type 0} (seen : ℕ) (old new : NodeMoment S) : Type 
   pub protocol : new.node.protocol ≡ old.node.protocol
 
 pub writes_none : {S : Type 0} (seen : ℕ) (old : NodeMoment S) → WritesSome seen old old
-writes_none seen old = record {
-  gone = [];
-  released = grind (arith, common_steps);
-  appended = grind (arith, common_steps, drop_all, Appends-nil);
-  protocol = refl;
-}
+writes_none seen old = grind (arith, common_steps, drop_all, Appends-nil)
 
 -- one byte more is written, unless it was seen
 appends_unseen : (c d e : Option (List ℕ)) (seen k byte : ℕ) (gone : List ℕ) → Appends c d (drop (seen - k) gone)
@@ -56,35 +43,24 @@ module _ {S : Type 0} (seen number byte : ℕ) (first old new : NodeMoment S) (h
     (next : Some (number, byte) ≡ next_of (input old.node.protocol.known) old.node.progress)
     (more : new.node.progress ≡ record old.node.progress { released = old.node.progress.released + 1 })
     (protocol : new.node.protocol ≡ old.node.protocol) where
+  -- it is released
   released_next : ReleasesBytes (input first.node.protocol.known) first.node.progress new.node.progress (h.gone ++ byte ∷ [])
       × (number ≡ first.node.progress.released + length h.gone)
-  released_next = releases_more _ _ _ _ _ _ number byte h.released (ap (λ (p : Protocol S). input p.known) h.protocol) next more
+  released_next = grind (arith, common_steps, drop-drop, slice_get_cases, h.released)
 
   pub writes_more : (seen ≤ number → Appends old.written new.written (byte ∷ [])) → (number < seen → new.written ≡ old.written)
       → WritesSome seen first new
-  writes_more unseen none = record {
-    gone = h.gone ++ byte ∷ [];
-    released = released_next.0;
-    appended =
-        grind (
-          arith,
-          released_next.1,
-          appends_unseen first.written old.written new.written seen first.node.progress.released byte h.gone h.appended,
-        );
-    protocol = protocol ∙ h.protocol;
-  }
+  writes_more unseen none =
+      grind (
+        arith,
+        h.gone ++ byte ∷ [],
+        released_next,
+        appends_unseen first.written old.written new.written seen first.node.progress.released byte h.gone h.appended,
+      )
 
   -- the byte that could not be written
   pub loses_next : (number < seen → ⊥) → (seen ≤ number → Keeps old.written new.written) → LosesOutput seen first new
-  loses_next written unseen =
-      let high : seen ≤ number = elim (cases_lt number seen) [ inl low ↦ absurd (written low) | inr high ↦ high ] in record {
-        gone = h.gone;
-        byte = byte;
-        released = released_next.0;
-        unseen = omega (arith, high, released_next.1);
-        appended = Appends-kept _ _ _ _ h.appended (unseen high);
-        protocol = protocol ∙ h.protocol;
-      }
+  loses_next written unseen = grind (arith, h.gone, byte, released_next, h.appended, Appends-kept)
 
 -- once nothing waits
 pub writes_all : {S : Type 0} (seen : ℕ) (old new : NodeMoment S) → WritesSome seen old new

@@ -1,24 +1,30 @@
 -- A whole run of a node, by its answer.
 use Rattle.std.proofs.Common.{◌≡◌, ◌⊎◌, inl, inr, ℕ, List, Option, IfErr, IsErrOf, Result, Ok, Err, refl, sym, ap, subst, arith}
+use Rattle.std.proofs.lemmas.Grind.{common_steps}
+use Rattle.std.proofs.lemmas.List.{drop_all}
 use Rattle.std.specs.declared.net.socket_addr.SocketAddr.{SocketAddr}
 use Rattle.pcode_file.specs.Parts.{Parts}
 use Rattle.paxos_acceptor.specs.declared.me.Me.{Me}
 use Rattle.paxos_acceptor.specs.Stores.{StoreKind}
-use Rattle.group_node.specs.Output.{IsReplay}
-use Rattle.group_protocol.specs.States.{IsConfig}
+use Rattle.group_node.specs.Output.{IsReplay, no_progress}
 use Rattle.group_node.specs.States.{NodeState, input}
 use Rattle.group_wire.specs.Doings.{working}
 use Rattle.group_wire.specs.Starts.{HasStarted}
 use Rattle.group_udp.specs.declared.fault.GroupFault.{GroupFault}
 use Rattle.node_run.specs.declared.node.NodePlan.{NodePlan}
-use Rattle.node_run.specs.Ends.{EndsLoaded, IsRefusedInput, IsTypedText, RefusesUnwritten, RunsOpened, RunsWith, keys_at_first, me_in}
+use Rattle.node_run.specs.Ends.{RunsOpened, RunsWith, keys_at_first}
 use Rattle.node_run.specs.Going.{Around, HasGone, planned}
 use Rattle.node_run.specs.Output.{AppendsOutput}
 use Rattle.group_udp.specs.Refusals.{IsCampaignRefusal, IsWrittenRoundRefusal, write_failed}
-use Rattle.node_run.specs.Runs.{RunsNode}
-use Rattle.node_run.proofs.Going.{is_store}
-use Rattle.node_run.proofs.Showing.{written_from}
+use Rattle.node_run.specs.Runs.{RunsNode, WritesReleased}
+use Rattle.node_run.proofs.Going.{is_store, prompted_if}
 use Rattle.node_run.proofs.Starting.{ran_on, ran_out}
+
+-- what was written from a start on
+written_from : {S : Type 0} (p : Parts) (seen : ℕ) (first last : NodeState S) (fails : Type 0) (c d : Option (List ℕ))
+    → first.progress ≡ no_progress p → IsReplay (input last.protocol.known) last.progress → AppendsOutput seen first last fails c d
+    → WritesReleased seen (working last) fails c d
+written_from p seen first last fails c d start replay (wrote, h, appends) = grind (arith, common_steps, h.lost, drop_all)
 
 module _ {S : Type 0} (kind : StoreKind S) (me : Me) (program : Parts)
     (store : S) (plan : NodePlan) (first last : NodeState S) (from to : Around) (before after : Option (List ℕ))
@@ -36,13 +42,7 @@ module _ {S : Type 0} (kind : StoreKind S) (me : Me) (program : Parts)
     gift = h.gift;
     given = h.given;
     turns = plan.turns;
-    follows = record {
-      lost = h.prompted.lost;
-      typed = h.prompted.typed;
-      all = λ _. h.prompted.all (λ f. f);
-      campaigns = h.prompted.campaigns;
-      made = h.prompted.made;
-    };
+    follows = prompted_if (λ f. absurd f) h.prompted;
     few = omega arith;
     all = refl;
     ends = tt;
@@ -63,13 +63,7 @@ module _ {S : Type 0} (kind : StoreKind S) (me : Me) (program : Parts)
     gift = h.gift;
     given = h.given;
     turns = done;
-    follows = record {
-      lost = h.prompted.lost;
-      typed = h.prompted.typed;
-      all = λ not_spent. h.prompted.all (λ spent. not_spent (ap Err spent));
-      campaigns = h.prompted.campaigns;
-      made = h.prompted.made;
-    };
+    follows = prompted_if (ap Err) h.prompted;
     few = few;
     all = tt;
     ends = others;
@@ -85,21 +79,3 @@ pub opened : {me : Me} {program : Parts} {plan : NodePlan} (text : List ℕ) {be
     → RunsWith me program plan (keys_at_first keys text) before after result → RunsOpened me program plan text before after result
 opened {me} {program} {plan} text {before} {after} {result} keys is h =
     subst (λ k. RunsWith me program plan (keys_at_first k text) before after result) (sym is) h
-
--- the node of a plan that a group has
-pub loaded_runs : {config : Me} {program : Parts} {plan : NodePlan} {from to : Option (List ℕ)} (text : List ℕ)
-    {before after : Option (List ℕ)} {result : Result (Unit {0}) GroupFault} → config ≡ me_in plan → IsConfig config
-    → IsTypedText plan.keys from to text → RunsOpened config program plan text before after result
-    → EndsLoaded program plan from to before after result
-loaded_runs {config} {program} {plan} {from} {to} text {before} {after} {result} is ranges typed runs =
-    inr (
-      subst IsConfig is ranges,
-      inr (text, typed, subst (λ (me : Me). RunsOpened me program plan text before after result) is runs),
-    )
-
--- the same node, whose input cannot be read
-pub loaded_refuses : {config : Me} {program : Parts} {plan : NodePlan} {from to : Option (List ℕ)}
-    {before after : Option (List ℕ)} {result : Result (Unit {0}) GroupFault} → config ≡ me_in plan → IsConfig config
-    → RefusesUnwritten (IsRefusedInput plan from to) before after result
-    → EndsLoaded program plan from to before after result
-loaded_refuses is ranges refused = inr (subst IsConfig is ranges, inl refused)

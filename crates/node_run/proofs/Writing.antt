@@ -3,7 +3,7 @@ use Rattle.std.proofs.Common.{◌≡◌, ◌↔◌, ◌∙◌, ℕ, ◌-◌, Lis
 use Rattle.std.proofs.Math.Seq.{drop-append-add}
 use Rattle.std.proofs.lemmas.Grind.{common_steps}
 use Rattle.std.proofs.lemmas.List.{drop-append-le, drop_all}
-use Rattle.std.proofs.KnownBytes.{Appends-nil, Appends-trans}
+use Rattle.std.proofs.KnownBytes.{Appends-nil}
 use Rattle.group_node.specs.Output.{IsReplay}
 use Rattle.group_node.specs.States.{NodeState, input}
 use Rattle.group_wire.specs.Turns.{released_by}
@@ -18,12 +18,7 @@ drop_both n m a b e = grind (arith, common_steps, drop-append-le, drop-append-ad
 -- nothing was lost
 none_lost : {S : Type 0} {seen : ℕ} {old new : NodeState S} {fails : Type 0} {wrote : List ℕ} → ¬ fails
     → drop seen (released_by new) ≡ drop seen (released_by old) ++ wrote → WritesOutput seen old new fails wrote
-none_lost not whole = record {
-  lost = [];
-  whole = grind (arith, common_steps);
-  one = λ f. absurd (not f);
-  none = λ _. refl;
-}
+none_lost not whole = grind (arith, common_steps)
 
 -- nothing was released
 pub wrote_none : {S : Type 0} (seen : ℕ) (old new : NodeState S) (fails : Type 0) (c : Option (List ℕ)) → ¬ fails
@@ -62,8 +57,4 @@ wrote_but_one old fails h same replay is = (
 pub wrote_then : {S : Type 0} (seen : ℕ) (old mid new : NodeState S) (failed fails now : Type 0) (c d e : Option (List ℕ))
     → ¬ failed → now ↔ fails → AppendsOutput seen old mid failed c d → AppendsOutput seen mid new fails d e
     → AppendsOutput seen old new now c e
-wrote_then seen old mid new failed fails now c d e not same (first, g, before) (wrote, h, then) = (
-  first ++ wrote,
-  record { lost = h.lost; whole = grind (arith, common_steps, append_assoc); one = grind arith; none = grind arith },
-  Appends-trans c d e first wrote before then,
-)
+wrote_then seen old mid new failed fails now c d e not same (first, g, before) (wrote, h, then) = grind (arith, append_assoc)

@@ -1,20 +1,20 @@
 use Rattle.std.proofs.Common.{[], ◌∷◌, rules}
-use Rattle.group_sim.proofs.Writing.{appended, both-written, failed-at, failed-first}
+use Rattle.group_sim.proofs.Writing.{appended, both-written, failed, front-after}
 use Rattle.group_sim.proofs.showing.write_learned.Goals as goal
 
 pub returns-in_err-put_number : goal.returns-in_err-put_number
-returns-in_err-put_number g c = failed-first _ (_ ∷ _ ∷ _ ∷ []) (search rules) c.in_err-put_number.ensures
+returns-in_err-put_number g c = failed _ (_ ∷ _ ∷ _ ∷ []) (search rules) c.in_err-put_number.ensures
 
 pub returns-in_err-put : goal.returns-in_err-put
-returns-in_err-put g c = failed-at _ _ _ (_ ∷ _ ∷ []) (search rules) c.in_ok-put_number.ensures c.in_err-put.ensures
+returns-in_err-put g c = failed _ (_ ∷ _ ∷ []) (search rules) (front-after c.in_ok-put_number.ensures c.in_err-put.ensures)
 
 pub returns-in_err-write_value : goal.returns-in_err-write_value
 returns-in_err-write_value g c =
-    failed-at _ _ _ (_ ∷ []) (search rules) (both-written _ _ _ _ _ c.in_ok-put_number.ensures c.in_ok-put.ensures)
-    c.in_err-write_value.ensures
+    failed _ (_ ∷ []) (search rules)
+    (front-after (both-written c.in_ok-put_number.ensures c.in_ok-put.ensures) c.in_err-write_value.ensures)
 
 pub returns : goal.returns
 returns g c =
     appended _ _ _ _ _ _
-    (both-written _ _ _ _ _ (both-written _ _ _ _ _ c.in_ok-put_number.ensures c.in_ok-put.ensures) c.in_ok-write_value.ensures)
+    (both-written (both-written c.in_ok-put_number.ensures c.in_ok-put.ensures) c.in_ok-write_value.ensures)
     c.put-2.ensures

@@ -5,7 +5,5 @@ use Rattle.group_sim.proofs.showing.write_nodes.Given as goal
 
 abbrev pub invariant-loop-before : goal.invariant-loop-before
 invariant-loop-before g l =
-    let old = held g.W.ByteWriter.contents g.W.ByteWriter.write_faults l.fn.writer in
-    let now = held g.W.ByteWriter.contents g.W.ByteWriter.write_faults l.writer in
-    AppendsText old now
-    (lines_below (λ k. node_line l.world (1 + k)) l.before)
+    let known = held g.W.ByteWriter.contents g.W.ByteWriter.write_faults in
+    AppendsText (known l.fn.writer) (known l.writer) (lines_below (λ k. node_line l.world (1 + k)) l.before)

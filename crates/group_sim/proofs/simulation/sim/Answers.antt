@@ -1,5 +1,5 @@
-use Rattle.std.proofs.Common.{◌∙◌, arith}
-use Rattle.group_sim.proofs.Lines.{all_done, line_done, line_halts}
+use Rattle.std.proofs.Common.{◌≡◌, ◌∙◌, length, refl, arith, rules}
+use Rattle.group_sim.proofs.Lines.{answers, line_done, line_halts}
 use Rattle.group_sim.proofs.simulation.sim.Goals as goal
 
 pub loop-line-preserved : goal.loop-line-preserved
@@ -15,16 +15,13 @@ loop-line-preserved g c =
 
 pub returns-clause-done : goal.returns-clause-done
 returns-clause-done g c = λ _.
-    all_done _ _ _ _ _ (rw (← c.deref-line-items.ensures.value) (omega arith)) c.loop-line.invariant.done
+    let all : c.loop-line.line-index ≡ length c.args.script.now.lines.items = rw (← c.deref-line-items.ensures.value) (omega arith) in
+    record { end = _; done = rw all at c.loop-line.invariant.done; written = refl }
 
-pub returns-in-Err-perform-clause-stopped : goal.returns-in-Err-perform-clause-stopped
-returns-in-Err-perform-clause-stopped g c =
+pub returns-in-Err-perform : goal.returns-in-Err-perform
+returns-in-Err-perform g c =
     let v = c.deref-line-items.ensures.value in
-    (line_halts _ _ _ c.loop-line.number _ _ _ c.in-Err-perform.halt _ _ c.loop-line.invariant.number (rw v at c.loop-line-test.true)
-    c.loop-line.invariant.done (rw (v, c.loop-line.invariant.size) at c.in-Err-perform.ensures.says) c.stopped_at-in-Err-perform.ensures).0
-
-pub returns-in-Err-perform-clause-unwritten : goal.returns-in-Err-perform-clause-unwritten
-returns-in-Err-perform-clause-unwritten g c =
-    let v = c.deref-line-items.ensures.value in
-    (line_halts _ _ _ c.loop-line.number _ _ _ c.in-Err-perform.halt _ _ c.loop-line.invariant.number (rw v at c.loop-line-test.true)
-    c.loop-line.invariant.done (rw (v, c.loop-line.invariant.size) at c.in-Err-perform.ensures.says) c.stopped_at-in-Err-perform.ensures).1
+    let halted = line_halts _ _ _ c.loop-line.number _ _ _ c.in-Err-perform.halt _ c.loop-line.invariant.number
+    (rw v at c.loop-line-test.true) c.loop-line.invariant.done (rw (v, c.loop-line.invariant.size) at c.in-Err-perform.ensures.says) in
+    let (stopped, unwritten) = answers _ _ _ c.stopped_at-in-Err-perform.ensures halted in
+    record { line = search rules; write = search rules; done = search rules; stopped = stopped; unwritten = unwritten; size = search rules }

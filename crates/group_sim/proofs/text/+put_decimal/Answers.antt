@@ -1,14 +1,14 @@
 use Rattle.std.proofs.Common.{[], ◌∷◌, rules, arith}
 use Rattle.std.proofs.lemmas.Grind.{common_steps}
 use Rattle.std.proofs.lemmas.Fmt.{decimal_digit, decimal_step}
-use Rattle.group_sim.proofs.Writing.{appended, failed-first}
+use Rattle.group_sim.proofs.Writing.{appended, failed}
 use Rattle.group_sim.proofs.text.+put_decimal.Goals as goal
 use Rattle.group_sim.proofs.text.+put_decimal.Goals.{then-number-ge10+in_ok-put_decimal, else-number-ge10}
 
 pub returns-in_err-put_decimal : goal.returns-in_err-put_decimal
 returns-in_err-put_decimal g t c =
     rw (decimal_step c.args.number c.if-number-ge10.true c.ranges.number.fits)
-    (failed-first _ (_ ∷ []) (search rules) c.in_err-put_decimal.ensures)
+    (failed _ (_ ∷ []) (search rules) c.in_err-put_decimal.ensures)
 
 pub returns : goal.returns
 returns g t c = elim c.if-number-ge10.branch [

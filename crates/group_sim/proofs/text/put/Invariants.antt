@@ -4,7 +4,5 @@ use Rattle.group_sim.proofs.text.put.Given as goal
 
 abbrev pub invariant-loop-byte : goal.invariant-loop-byte
 invariant-loop-byte g l =
-    let old = held g.W.ByteWriter.contents g.W.ByteWriter.write_faults l.fn.writer in
-    let now = held g.W.ByteWriter.contents g.W.ByteWriter.write_faults l.writer in
-    AppendsText old
-    now (take l.byte-index l.text)
+    let known = held g.W.ByteWriter.contents g.W.ByteWriter.write_faults in
+    AppendsText (known l.fn.writer) (known l.writer) (take l.byte-index l.text)

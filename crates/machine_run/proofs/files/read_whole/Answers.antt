@@ -1,22 +1,18 @@
-use Rattle.std.proofs.Common.{rules, ◌<◌, ◌++◌, ◌∙◌, length, take, inr}
-use Rattle.machine_run.proofs.Consuming.{consumes_on, some_read, too_many}
+use Rattle.std.proofs.Common.{◌++◌, ◌∙◌, take, inr, arith}
+use Rattle.std.proofs.KnownBytes.{Consumes-trans}
+use Rattle.std.proofs.lemmas.Grind.{common_steps}
 use Rattle.machine_run.proofs.files.read_whole.Goals as goal
 
 pub returns-then-n-len-clause-front : goal.returns-then-n-len-clause-front
-returns-then-n-len-clause-front g c =
-    let consumed = c.in-Ok.ensures.bytes in
-    let faults = c.in-Ok.ensures.faults in (
-      c.loop.bytes.items ++ take c.in-Ok.n c.read_some.new.buffer,
-      consumes_on _ _ _ _ _ c.loop.invariant.whole consumed.0,
-      inr (faults ∙ c.loop.invariant.faults, too_many _ _ _ _ (search rules) (search rules)),
-    )
+returns-then-n-len-clause-front g c = (
+  c.loop.bytes.items ++ take c.in-Ok.n c.read_some.new.buffer,
+  Consumes-trans _ _ _ _ _ c.loop.invariant.whole c.in-Ok.ensures.bytes.0,
+  inr (c.in-Ok.ensures.faults ∙ c.loop.invariant.faults, grind (arith, common_steps)),
+)
 
 pub returns-then-is_err-clause-front : goal.returns-then-is_err-clause-front
-returns-then-is_err-clause-front g c =
-    let consumed = c.in-Ok.ensures.bytes in
-    let faults = c.in-Ok.ensures.faults in
-    let some : 0 < length (c.loop.bytes.items ++ take c.in-Ok.n c.read_some.new.buffer) = some_read _ _ _ (search rules) (search rules) in (
-      c.loop.bytes.items ++ take c.in-Ok.n c.read_some.new.buffer,
-      consumes_on _ _ _ _ _ c.loop.invariant.whole consumed.0,
-      (faults ∙ c.loop.invariant.faults, some),
-    )
+returns-then-is_err-clause-front g c = (
+  c.loop.bytes.items ++ take c.in-Ok.n c.read_some.new.buffer,
+  Consumes-trans _ _ _ _ _ c.loop.invariant.whole c.in-Ok.ensures.bytes.0,
+  (c.in-Ok.ensures.faults ∙ c.loop.invariant.faults, grind (arith, common_steps)),
+)

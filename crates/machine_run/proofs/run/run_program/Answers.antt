@@ -1,6 +1,7 @@
-use Rattle.std.proofs.Common.{◌≡◌, ◌+◌, ◌-◌, ◌∙◌, arith}
+use Rattle.std.proofs.Common.{◌≡◌, ◌+◌, ◌-◌, ◌∙◌, arith, rules}
 use Rattle.std.proofs.lemmas.Result.{err_from_is_err_and}
-use Rattle.machine_run.proofs.Running.{laws_of, Reached-start, spent, next_turn, last_turn, failed_turn}
+use Rattle.machine_run.specs.declared.run.Finish.TheVariants.{Steps}
+use Rattle.machine_run.proofs.Running.{Laws, Reached-start, done, next_turn, last_turn, failed_turn}
 use Rattle.machine_run.proofs.run.run_program.Goals as goal
 
 pub loop-left-init : goal.loop-left-init
@@ -10,32 +11,30 @@ loop-left-init g c =
 
 pub loop-left-preserved : goal.loop-left-preserved
 loop-left-preserved g c =
-    let laws = laws_of c.same_run_on_longer_input.ensures c.run_is_after.ensures c.quiet_steps_lead_on.ensures in
-    let turn = rw c.in_default-finish.is at c.in_ok-made.ensures.turn in
+    let laws : Laws = search rules in
+    let turn = rw (c.in_default-finish.is, c.loop-left.invariant.program) at c.in_ok-made.ensures.turn in
     let more : c.args.steps - (c.loop-left.left - c.in_ok-made.made) ≡ c.args.steps - c.loop-left.left + c.in_ok-made.made = omega arith in
     record {
       program = c.turn.ensures.program ∙ c.loop-left.invariant.program;
-      run = rw more (next_turn _ _ laws c.loop-left.invariant.program c.loop-left.invariant.run turn);
+      run = rw more (next_turn laws c.loop-left.invariant.run _ _ _ _ turn);
       few = omega arith;
     }
 
 pub returns : goal.returns
 returns g c =
-    let laws = laws_of c.same_run_on_longer_input.ensures c.run_is_after.ensures c.quiet_steps_lead_on.ensures in
-    let all : c.args.steps - c.loop-left.left ≡ c.args.steps = omega arith in
-    spent laws c.loop-left.invariant.run all
+    let laws : Laws = search rules in
+    done laws c.loop-left.invariant.run Steps (omega arith)
 
 pub returns-in-Some : goal.returns-in-Some
 returns-in-Some g c =
-    let laws = laws_of c.same_run_on_longer_input.ensures c.run_is_after.ensures c.quiet_steps_lead_on.ensures in
-    let all : c.args.steps - c.loop-left.left + c.loop-left.left ≡ c.args.steps = omega arith in
-    last_turn _ _ c.turn.new.machine.state c.in-Some.finish laws c.loop-left.invariant.program c.loop-left.invariant.run
-    (rw c.in-Some.is at c.in_ok-made.ensures.turn) all
+    let laws : Laws = search rules in
+    last_turn laws c.loop-left.invariant.run _ c.turn.new.machine.state _ _ c.in-Some.finish
+    (rw (c.in-Some.is, c.loop-left.invariant.program) at c.in_ok-made.ensures.turn) (omega arith)
 
 pub returns-in_err-made : goal.returns-in_err-made
 returns-in_err-made g c =
-    let laws = laws_of c.same_run_on_longer_input.ensures c.run_is_after.ensures c.quiet_steps_lead_on.ensures in
+    let laws : Laws = search rules in
     let p = err_from_is_err_and c.from_residual.result c.from_residual.ensures.1 in
-    let all : c.args.steps - c.loop-left.left + c.loop-left.left ≡ c.args.steps = omega arith in
-    rw p.1 (failed_turn _ c.turn.new.machine.state _ c.args.steps c.in_err-made.field-0.0 p.0 laws
-    c.loop-left.invariant.program c.loop-left.invariant.run c.in_err-made.ensures.turn all p.2)
+    rw (p.1, p.2)
+    (failed_turn laws c.loop-left.invariant.run _ c.turn.new.machine.state c.loop-left.left c.in_err-made.field-0.0
+    c.loop-left.invariant.program c.in_err-made.ensures.turn (omega arith))

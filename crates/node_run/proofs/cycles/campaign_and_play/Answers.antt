@@ -15,5 +15,5 @@ returns-in_err-campaign_if-clause-goes g c =
     rw (p.1, p.2) (campaign_refused c.in_err-campaign_if.ensures.acts)
 
 pub returns-clause-goes : goal.returns-clause-goes
-returns-clause-goes g c = begun_by c.deeds_go_on.ensures _ _ _ _ _ _ _ c.args.plan.now.turns c.play.result
+returns-clause-goes g c = begun_by c.deeds_go_on.ensures _ _ _ c.args.plan.now.turns c.play.result
     c.in_ok-campaign_if.ensures.acts c.play.ensures.goes

@@ -1,6 +1,6 @@
-use Rattle.std.proofs.Common.{refl, arith}
+use Rattle.std.proofs.Common.{[], inl, refl, arith}
 use Rattle.std.proofs.lemmas.Result.{err_from_is_err_and}
-use Rattle.node_run.proofs.Going.{ended_after, gone_ended, gone_then, gone_unprompted}
+use Rattle.node_run.proofs.Going.{gone_ended, gone_then, gone_unprompted}
 use Rattle.node_run.proofs.Writing.{wrote_all, wrote_but_one, wrote_none}
 use Rattle.node_run.proofs.cycles.cycle.Goals as goal
 
@@ -20,18 +20,20 @@ returns-in_err-release_all-clause-writes g c =
     (let p = err_from_is_err_and c.from_residual-in_err-release_all.result c.from_residual-in_err-release_all.ensures.1 in grind arith)
 
 pub returns-in_err-more-clause-goes : goal.returns-in_err-more-clause-goes
-returns-in_err-more-clause-goes g c =
-    let p = err_from_is_err_and c.from_residual.result c.from_residual.ensures.1 in
-    rw (p.1, p.2) c.in_err-more.ensures.goes
+returns-in_err-more-clause-goes g c = grind arith
 
 pub returns-in_err-release_all-clause-goes : goal.returns-in_err-release_all-clause-goes
 returns-in_err-release_all-clause-goes g c =
     let p = err_from_is_err_and c.from_residual-in_err-release_all.result c.from_residual-in_err-release_all.ensures.1 in
-    rw (p.1, p.2)
-    (ended_after 1 (omega arith)
-    (gone_ended (gone_then c.deeds_go_on.ensures c.in_ok-more.ensures.goes
-    (gone_unprompted (rw c.in_err-release_all.ensures.passed (c.in_err-release_all.ensures.acts _)) refl))
-    (λ is. absurd (cc (c.in_err-release_all.ensures.released.1, is))) (rw c.in_err-release_all.ensures.released.1 tt)))
+    rw (p.1, p.2) (
+      [],
+      inl refl,
+      1,
+      omega arith,
+      gone_ended (gone_then c.deeds_go_on.ensures c.in_ok-more.ensures.goes
+          (gone_unprompted (rw c.in_err-release_all.ensures.passed (c.in_err-release_all.ensures.acts _)) refl))
+          (λ is. absurd (cc (c.in_err-release_all.ensures.released.1, is))) (rw c.in_err-release_all.ensures.released.1 tt),
+    )
 
 pub returns-clause-goes : goal.returns-clause-goes
 returns-clause-goes g c =

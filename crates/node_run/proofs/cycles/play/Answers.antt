@@ -1,6 +1,6 @@
 use Rattle.std.proofs.Common.{refl, arith}
 use Rattle.std.proofs.lemmas.Result.{err_from_is_err_and}
-use Rattle.node_run.proofs.Going.{gone_none, gone_then, played_ended}
+use Rattle.node_run.proofs.Going.{gone_then, gone_unprompted, played_ended}
 use Rattle.node_run.proofs.Writing.{wrote_none, wrote_then}
 use Rattle.node_run.proofs.cycles.play.Goals as goal
 
@@ -12,7 +12,7 @@ returns-in_err-is_busy-clause-writes g c =
 
 pub loop-init : goal.loop-init
 loop-init g c = record {
-  goes = gone_none c.deeds_go_on.ensures c.args.host.now _;
+  goes = gone_unprompted (c.deeds_go_on.ensures.none _ _) refl;
   works = c.requires.works;
   program = refl;
   wrote = wrote_none c.args.plan.now.seen c.args.host.now c.args.host.now _ _ (λ f. absurd cc) refl;

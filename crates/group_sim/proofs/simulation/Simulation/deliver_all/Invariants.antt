@@ -5,11 +5,10 @@ use Rattle.group_sim.proofs.simulation.Simulation.deliver_all.Given as goal
 
 abbrev pub invariant-loop-message : goal.invariant-loop-message
 invariant-loop-message g l =
-    let old = held g.W.ByteWriter.contents g.W.ByteWriter.write_faults l.fn.writer in
-    let now = held g.W.ByteWriter.contents g.W.ByteWriter.write_faults l.writer in
+    let known = held g.W.ByteWriter.contents g.W.ByteWriter.write_faults in
     record {
       size : l.self.size ≡ l.fn.self.size;
       from : l.fn.self.passed ≤ l.message;
       done : AreDone (PassesOn l.line l.fn.self.size) l.fn.self.passed (l.message - l.fn.self.passed)
-          (moment l.fn.self old) (moment l.self now);
+          (moment l.fn.self (known l.fn.writer)) (moment l.self (known l.writer));
     }

@@ -7,10 +7,9 @@ use Rattle.group_sim.proofs.simulation.Simulation.release_all.Given as goal
 
 abbrev pub invariant-loop : goal.invariant-loop
 invariant-loop g l =
-    let old = held g.W.ByteWriter.contents g.W.ByteWriter.write_faults l.fn.writer in
-    let now = held g.W.ByteWriter.contents g.W.ByteWriter.write_faults l.writer in
+    let known = held g.W.ByteWriter.contents g.W.ByteWriter.write_faults in
     record {
       size : l.self.size ≡ l.fn.self.size;
       done : AreDone (λ k. HappensAt l.line (kept_event (Release l.node))) 0 l.counter
-          (moment l.fn.self old) (moment l.self now);
+          (moment l.fn.self (known l.fn.writer)) (moment l.self (known l.writer));
     }

@@ -1,18 +1,11 @@
-use Rattle.std.proofs.Common.{false, refl, arith}
+use Rattle.std.proofs.Common.{false, arith}
 use Rattle.group_wire.proofs.Acting.{hear_acts_by}
 use Rattle.group_wire.proofs.Going.{call_stays}
 use Rattle.group_wire.proofs.host.Host.hear.Goals as goal
 
 pub returns-clause-stays : goal.returns-clause-stays
 returns-clause-stays g c =
-    let hears = c.hear_next.ensures.hears in
-    call_stays c.args.self.now c.hear_next.new.self hears.0 false (record {
-      steps = c.output_only_grows.ensures.steps;
-      longer = c.output_only_grows.ensures.input;
-      inputs = c.input_grows.ensures.learned;
-      message = c.calls_keep_what_is_learned.ensures.message;
-      tick = c.calls_keep_what_is_learned.ensures.tick;
-    }) hears.2.known c.unreleased.ensures.replay (rw hears.2.progress refl) (rw hears.2.progress (omega arith))
+    grind (arith, call_stays c.args.self.now c.hear_next.new.self c.hear_next.ensures.hears.0 false, c.unreleased.ensures.replay)
 
 pub returns-clause-acts : goal.returns-clause-acts
 returns-clause-acts g c =

@@ -1,7 +1,8 @@
-use Rattle.std.proofs.Common.{rules, ◌≡◌, ◌∙◌, refl, ap, arith, Err, Ok}
-use Rattle.group_wire.specs.declared.answers.Received.TheVariants.{Dropped, Lost, Message}
+use Rattle.std.proofs.Common.{rules, ◌∙◌, refl, ap, arith, Err}
+use Rattle.std.proofs.lemmas.Bool.Decides.{nat_tests}
+use Rattle.group_wire.specs.declared.answers.Received.TheVariants.{Dropped, Lost}
 use Rattle.group_wire.specs.Arrivals.{Loses, NoMessage, TooLong}
-use Rattle.group_wire.proofs.Hearing.{hears_none, hears_one, refuses_one, refused_as, refused_others}
+use Rattle.group_wire.proofs.Hearing.{hears_none, hears_one, refuses_one}
 use Rattle.group_wire.proofs.host.Host.hear_bytes.Goals as goal
 
 pub returns-then-bytes-gt-LONGEST_DATAGRAM-clause-hears : goal.returns-then-bytes-gt-LONGEST_DATAGRAM-clause-hears
@@ -24,12 +25,7 @@ returns-in_err-unless_memory-clause-hears g c from came =
 
 pub returns-in_err-unless_memory-clause-refused : goal.returns-in_err-unless_memory-clause-refused
 returns-in_err-unless_memory-clause-refused g c =
-    let told : c.from_residual.result ≡ Err c.in-Err.fault = search rules in
-    let done = c.in-Err.ensures.responds in
-    rw (← c.self.view_is)
-    (refused_as (Err c.in-Err.fault) _ done.sends.let_in done.sends.does.stops done.saves.cause
-    (λ is. cc) (λ is. cc) (λ is. cc)
-    (rw told (refused_others c.self.invariant.1 (search rules) c.in-Err.ensures.others done.sends.let_in)))
+    grind (arith, c.from_residual.result, c.in-Err.ensures.responds, c.self.view_is, c.self.invariant.1, c.in-Err.ensures.others)
 
 pub returns-in-Err-clause-hears : goal.returns-in-Err-clause-hears
 returns-in-Err-clause-hears g c from came =
@@ -41,11 +37,7 @@ returns-in-Err-clause-hears g c from came =
 
 pub returns-in-Err-clause-refused : goal.returns-in-Err-clause-refused
 returns-in-Err-clause-refused g c =
-    let memory = c.in_ok-unless_memory.ensures.memory in
-    let done = c.in-Err.ensures.responds in
-    rw (← c.self.view_is)
-    (refused_as (Err c.in-Err.fault) (Ok Lost) done.sends.let_in done.sends.does.stops done.saves.cause
-    (λ is. absurd cc) (λ is. absurd cc) (λ is. absurd cc) tt)
+    grind (arith, c.in-Err.ensures.responds, c.self.view_is)
 
 pub returns-clause-hears : goal.returns-clause-hears
 returns-clause-hears g c from came =
@@ -60,7 +52,4 @@ returns-clause-hears g c from came =
 
 pub returns-clause-refused : goal.returns-clause-refused
 returns-clause-refused g c =
-    let done = c.in_default-on_message.ensures.responds in
-    rw (← c.self.view_is)
-    (refused_as (Ok c.in_default-on_message.field-0) (Ok Message) done.sends.let_in done.sends.does.stops done.saves.cause
-    (λ is. absurd cc) (λ is. absurd cc) (λ is. absurd cc) tt)
+    grind (arith, c.in_default-on_message.ensures.responds, c.self.view_is)
