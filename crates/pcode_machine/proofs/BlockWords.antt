@@ -19,8 +19,7 @@ get_first xs ys i h = let x = get_there xs i h in get_longer xs ys i x.0 x.1 ∙
 get_after : {A : Type 0} (xs ys : List A) (i : ℕ) → length xs ≤ i → slice_get (xs ++ ys) i ≡ slice_get ys (i - length xs)
 get_after [] ys i h = rw sub-zero refl
 get_after (x ∷ xs) ys zero h = absurd (omega arith)
-get_after (x ∷ xs) ys (suc i) h =
-    let less : suc i - suc (length xs) ≡ i - length xs = omega arith in rw less (get_after xs ys i (omega arith))
+get_after (x ∷ xs) ys (suc i) h = grind (arith, get_after xs ys i)
 
 get_take : {A : Type 0} (n : ℕ) (xs : List A) (i : ℕ) → i < n → slice_get (take n xs) i ≡ slice_get xs i
 get_take zero xs i h = absurd (omega arith)

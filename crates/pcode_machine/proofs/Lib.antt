@@ -19,4 +19,3 @@ pub mod BlockWords
 pub mod Packed
 pub mod Returns
 pub mod Transferring
-pub mod UnitCalls

@@ -1,5 +1,5 @@
 -- A step as a relation is a step of the function.
-use Rattle.std.proofs.Common.{◌≡◌, ◌↔◌, ℕ, List, Option, Some, None, Result, Ok, Err, refl, sym, ◌∙◌, arith}
+use Rattle.std.proofs.Common.{◌≡◌, ◌↔◌, ℕ, List, Option, Some, None, Result, Ok, Err, refl, arith}
 use Rattle.std.proofs.lemmas.Option.{slice_get_past}
 use Rattle.std.proofs.lemmas.Bool.Decides.{nat_tests}
 use Rattle.base.proofs.Lists.{get_none}
@@ -23,7 +23,7 @@ use Rattle.pcode_machine.specs.Errors.{error_number}
 use Rattle.pcode_machine.specs.Execute.{execute}
 use Rattle.pcode_machine.specs.Transition.{Goes, Stops, Waiting, transition, pending, moved, decoded, after_effect, end_by}
 use Rattle.pcode_machine.specs.Step.{Moves, Acts, Step, StopsBy, StopsIn, Ends, Awaits}
-use Rattle.pcode_machine.proofs.Ways.{Executed, Moved, went, one_decoded}
+use Rattle.pcode_machine.proofs.Ways.{Executed, Moved, went}
 use Rattle.pcode_machine.proofs.Related.{holds, goes, fails}
 
 -- an instruction is decoded exactly where it is
@@ -80,7 +80,7 @@ module _ (p : Parts) (known : Decodes p.segment) (x : List ℕ) (c : Configurati
       × (d ≡ record c { state = d.state })
   executed d i j idle at step = elim (went p x c d (step_is d step)) [
     | Executed f k l here made is ↦
-        let same = one_decoded k i l j (sym here.decoded ∙ (known c.state.next i j).1 at) in
+        let there = (known c.state.next i j).1 at in let same : (k ≡ i) × (l ≡ j) = grind arith in
         (f, here.current, rw (same.0, same.1) at made, is)
     | Moved f t current there e ↦ absurd (cc)
   ]

@@ -7,10 +7,9 @@ use Rattle.pcode_ops.specs.declared.fault.OpFault.{OpFault}
 use Rattle.pcode_ops.specs.Decoding.{instr_at}
 use Rattle.pcode_frames.specs.declared.frame.Frame.{Frame}
 use Rattle.pcode_machine.specs.declared.turn.Transfer.{Transfer}
-use Rattle.pcode_machine.specs.declared.turn.Stop.{Stop}
-use Rattle.pcode_machine.specs.Configuration.{State, Configuration, current_of}
+use Rattle.pcode_machine.specs.Configuration.{Configuration, current_of}
 use Rattle.pcode_machine.specs.Execute.{execute}
-use Rattle.pcode_machine.specs.Transition.{Goes, transition, in_frame, pending, moved, decoded, after_effect}
+use Rattle.pcode_machine.specs.Transition.{Goes, transition, in_frame, pending, moved, decoded}
 
 -- an instruction is next, in the current frame
 pub record IsAt (p : Parts) (c : Configuration) (f : Frame) (i : Instr) (j : ℕ) : Type 0 where
@@ -25,21 +24,12 @@ pub data Went (p : Parts) (x : List ℕ) (c d : Configuration) : Type 0 where
   Moved : (f : Frame) (t : Transfer) → current_of c.state.frames ≡ Some f → c.state.transfer ≡ Some t
       → moved t.direction x c f t ≡ Goes d → Went p x c d
 
--- the parts of what is decoded
-pub one_decoded : (i k : Instr) (j l : ℕ) → ◌≡◌ {A = Result (Instr × ℕ) OpFault} (Ok (i, j)) (Ok (k, l)) → (i ≡ k) × (j ≡ l)
-one_decoded i k j l e = grind arith
-
--- the state after an instruction is the new one
-after_goes : (c : Configuration) (f : Frame) (o : Option (Result State Stop)) (d : Configuration) → after_effect c f o ≡ Goes d
-    → (o ≡ Some (Ok d.state)) × (d ≡ record c { state = d.state })
-after_goes c f o d e = grind (arith, nat_tests)
-
 module _ (p : Parts) (x : List ℕ) (c d : Configuration) where
   decoded_went : (f : Frame) → current_of c.state.frames ≡ Some f → c.state.transfer ≡ None → (r : Result (Instr × ℕ) OpFault)
       → instr_at p.segment c.state.next ≡ r → decoded p c f r ≡ Goes d → Went p x c d
   decoded_went f current idle (Err fault) at e = absurd cc
   decoded_went f current idle (Ok (i, j)) at e =
-      let h = after_goes c f (execute p f i j c.state) d e in
+      let h : (execute p f i j c.state ≡ Some (Ok d.state)) × (d ≡ record c { state = d.state }) = grind (arith, nat_tests) in
       Executed f i j (record { current = current; idle = idle; decoded = at }) h.0 h.1
 
   pending_went : (f : Frame) → current_of c.state.frames ≡ Some f → (o : Option Transfer) → c.state.transfer ≡ o

@@ -1,7 +1,6 @@
 -- The parts of procedures lie in the segment and are apart, so each offset of a part has the part's
 -- procedure as its owner.
-use Rattle.std.proofs.Common.{◌≡◌, ℕ, zero, suc, ◌↔◌, true, IsTrue, List, [], ◌∷◌, length, get_or, Some, slice_get, Ok, refl, ap, arith}
-use Rattle.std.proofs.lemmas.Bool.{cond_both}
+use Rattle.std.proofs.Common.{◌≡◌, ℕ, zero, suc, ◌↔◌, true, IsTrue, List, [], ◌∷◌, length, get_or, Some, slice_get, Ok, refl, arith}
 use Rattle.std.proofs.lemmas.Bool.Decides.{nat_tests}
 use Rattle.std.proofs.lemmas.Option.{slice_get-get_or}
 use Rattle.pcode_file.specs.declared.file.Proc.{Proc}
@@ -41,9 +40,7 @@ first_owner : (procs : List Proc) (i k : ℕ) (q : Proc)
     → IsTrue (is_in q i) → owner procs i ≡ Ok q
 first_owner [] i k q all at_k in_q = absurd cc
 first_owner (r ∷ rs) i zero q all at_k in_q = cc
-first_owner (r ∷ rs) i (suc k) q all at_k in_q =
-    cond_both (is_in r i) _ _ (λ o. o ≡ Ok q) (λ t. ap Ok (all 0 r refl t))
-    (λ _. first_owner rs i k q (λ b. all (suc b)) at_k in_q)
+first_owner (r ∷ rs) i (suc k) q all at_k in_q = grind (arith, all 0 r refl, first_owner rs i k q (λ b. all (suc b)) at_k in_q)
 
 -- an offset in the part of procedure n is owned by it
 pub owned : (p : Parts) (n i : ℕ) (q : Proc) → AreProcs p.segment p.procs → procedure_of p.procs n ≡ Some q

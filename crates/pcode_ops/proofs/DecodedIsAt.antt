@@ -1,6 +1,5 @@
 -- Decoding as a function and as a relation are one.
-use Rattle.std.proofs.Common.{◌≡◌, ℕ, ◌+◌, ◌*◌, ◌%◌, ◌<◌, ◌≤◌, true, cond, ltb, eqb, eq-eqb, length, List, Option, Some, None, Result, Ok, Err, IfOk, slice_index, refl, sym, ap, ◌∙◌, arith, ℤ, ◌≤ℤ◌}
-use Rattle.std.proofs.lemmas.Bool.{eqb-true}
+use Rattle.std.proofs.Common.{◌≡◌, ℕ, ◌+◌, ◌*◌, ◌%◌, ◌<◌, ◌≤◌, true, cond, ltb, eqb, length, List, Option, Some, None, Ok, Err, slice_index, refl, arith, ℤ}
 use Rattle.std.proofs.lemmas.Bool.Decides.{nat_tests}
 use Rattle.std.proofs.lemmas.Int.{ints}
 use Rattle.std.proofs.lemmas.Option.{gets, slice_get-get_or}
@@ -8,7 +7,6 @@ use Rattle.std.specs.Int.{w8, cast_signed}
 use Rattle.base.proofs.Steps.{bind_ok}
 use Rattle.pcode_ops.specs.declared.instr.Instr.{Instr}
 use Rattle.pcode_ops.specs.declared.instr.Instr.TheVariants.{Xjp}
-use Rattle.pcode_ops.specs.declared.fault.OpFault.{OpFault}
 use Rattle.pcode_ops.specs.declared.fault.OpFault.TheVariants.{Cut, CaseTable}
 use Rattle.pcode_ops.specs.Opcodes.{Form, CaseJump, has_opcode, row_of, opcodes}
 use Rattle.pcode_ops.specs.At.{HasByte, SignedByte, SignedWord, Cases, cases, Stands, At}
@@ -16,10 +14,6 @@ use Rattle.pcode_ops.specs.Decoding.{byte_at, signed_word, case_jump_at, read_at
 use Rattle.pcode_ops.proofs.Rows.{row_found, row_is}
 
 -- ---- case jumps
-
--- a case jump with cases has its bounds in order
-some_cases : (low high : ℤ) → 0 < cases low high → low ≤ℤ high
-some_cases low high h = grind (arith, ints)
 
 -- a case jump in the code is what is read
 case_jump_found : (code : List ℕ) (at : ℕ) (low high sb : ℤ) (table j : ℕ) → Cases code at low high sb table j
@@ -34,10 +28,11 @@ checked : (size at count jump : ℕ) (made found : Instr × ℕ)
 checked size at count jump made found e = grind (arith, nat_tests)
 
 -- the operands of a case jump are there, where the code is long enough
-operands_there : (code : List ℕ) (at : ℕ) → at + 6 ≤ length code → slice_index code (at + 4) ≡ 185
+pub operands_there : (code : List ℕ) (at : ℕ) → at + 6 ≤ length code
     → SignedWord code at (signed_word code at) (at + 2) × SignedWord code (at + 2) (signed_word code (at + 2)) (at + 4)
-    × HasByte code (at + 4) 185 × SignedByte code (at + 4 + 1) (cast_signed w8 (slice_index code (at + 5))) (at + 6)
-operands_there code at long jump = grind (arith, slice_get-get_or)
+    × HasByte code (at + 4) (slice_index code (at + 4))
+    × SignedByte code (at + 4 + 1) (cast_signed w8 (slice_index code (at + 5))) (at + 6)
+operands_there code at long = grind (arith, slice_get-get_or)
 
 -- a case jump that is read is in the code
 case_jump_read : (code : List ℕ) (at : ℕ) (instr : Instr) (j : ℕ) → case_jump_at code at ≡ Ok (instr, j)
@@ -46,17 +41,16 @@ case_jump_read code at instr j e =
     let low = signed_word code at in
     let high = signed_word code (at + 2) in
     let is = checked (length code) at (cases low high) (slice_index code (at + 4)) _ (instr, j) e in
-    let there = operands_there code at (omega (arith, is.2)) is.1 in
-    (_, _, _, _, (there.0, there.1, some_cases low high is.0, there.2, there.3, is.4, omega (arith, is.2, is.4)), is.3)
+    let there = operands_there code at (omega (arith, is.2)) in
+    let jump : HasByte code (at + 4) 185 = rw is.1 at there.2 in
+    (_, _, _, _, (there.0, there.1, grind (arith, ints, is.0), jump, there.3, is.4, omega (arith, is.2, is.4)), is.3)
 
 -- ---- from the function to the relation
 
 -- what is read after an opcode is there, in the form of the opcode's row
 read_stands : (code : List ℕ) (i op first : ℕ) (form : Form) (instr : Instr) (j : ℕ) → HasByte code i op
     → has_opcode op first form ≡ true → read_at code i op first form ≡ Ok (instr, j) → Stands code i first form instr j
-read_stands code i op first CaseJump instr j h t e =
-    let is = case_jump_read code (i + 1 + (i + 1) % 2) instr j e in
-    (is.0, is.1, is.2, is.3, h ∙ ap Some (eqb-true op first t), is.4, is.5)
+read_stands code i op first CaseJump instr j h t e = grind (arith, nat_tests, case_jump_read code (i + 1 + (i + 1) % 2) instr j e)
 read_stands code i op first other instr j h t e = grind (arith, nat_tests)
 
 -- what is read by the row of an opcode is in the code
@@ -74,19 +68,13 @@ decoded_at code i instr j e =
     let b = bind_ok (byte_at code i) (instr_of code i) (instr, j) e in
     row_at code i b.0 instr j (row_of b.0 opcodes) (grind arith) refl b.2
 
--- the same of an answer
-pub answer_stands : (code : List ℕ) (i : ℕ) (r : Result (Instr × ℕ) OpFault) → r ≡ instr_at code i
-    → IfOk r (λ found. At code i found.0 found.1)
-answer_stands code i (Ok found) e = decoded_at code i found.0 found.1 (sym e)
-answer_stands code i (Err f) e = tt
-
 -- ---- from the relation to the function
 
 -- the byte at i is one of the row's opcodes, and what follows it is read
 stands_read : (code : List ℕ) (i first : ℕ) (form : Form) (instr : Instr) (j : ℕ) → Stands code i first form instr j
     → (op : ℕ) × HasByte code i op × (has_opcode op first form ≡ true) × (read_at code i op first form ≡ Ok (instr, j))
 stands_read code i first CaseJump instr j h =
-    (first, h.4, eq-eqb first first refl, rw h.6 (case_jump_found code (i + 1 + (i + 1) % 2) h.0 h.1 h.2 h.3 j h.5))
+    grind (arith, nat_tests, case_jump_found code (i + 1 + (i + 1) % 2) h.0 h.1 h.2 h.3 j h.5)
 stands_read code i first other instr j h = grind (arith, nat_tests)
 
 -- an instruction in the code is decoded
@@ -95,8 +83,3 @@ unfolding instr_of
 at_decoded code i instr j h =
     let r = stands_read code i h.opcode h.form instr j h.stands in
     rw (r.1, row_is r.0 h.row.0 (h.opcode, h.form) h.row.1 r.2) r.3
-
--- the same of an answer
-pub at_answered : (code : List ℕ) (i : ℕ) (r : Result (Instr × ℕ) OpFault) → r ≡ instr_at code i
-    → (instr : Instr) (j : ℕ) → At code i instr j → r ≡ Ok (instr, j)
-at_answered code i r e instr j at = e ∙ at_decoded code i instr j at

@@ -1,5 +1,5 @@
 -- The entries of a case table, one after the other.
-use Rattle.std.proofs.Common.{◌≡◌, ℕ, zero, suc, ◌+◌, ◌*◌, ◌-◌, ◌<◌, ◌≤◌, ◌&&◌, ◌↔◌, true, false, List, refl, arith}
+use Rattle.std.proofs.Common.{◌≡◌, ℕ, zero, suc, ◌+◌, ◌*◌, ◌-◌, ◌<◌, ◌&&◌, ◌↔◌, true, List, refl, arith, Bool}
 use Rattle.std.proofs.lemmas.Bool.{and_parts, and_from}
 use Rattle.std.proofs.lemmas.Bool.Decides.{nat_tests}
 use Rattle.pcode_file.specs.declared.file.Proc.{Proc}
@@ -29,29 +29,12 @@ entries_point segment q table (suc n) =
 
 -- ---- as a loop tests them
 
--- the entries from one on are that one and the rest
-entries_step : (segment : List ℕ) (q : Proc) (t n k : ℕ) → k < n
-    → entries_in segment q (t + 2 * k) (n - k)
-    ≡ (leads_in segment q (t + 2 * k) && entries_in segment q (t + 2 * (k + 1)) (n - (k + 1)))
-unfolding entries_in
-entries_step segment q t n k lt =
-    let e : n - k ≡ suc (n - (k + 1)) = omega arith in
-    let f : t + 2 * k + 2 ≡ t + 2 * (k + 1) = omega arith in
-    rw (e, ← f) refl
-
--- one entry that leads out of the part is enough
-pub entries_bad : (segment : List ℕ) (q : Proc) (t n k : ℕ) → k < n → leads_in segment q (t + 2 * k) ≡ false
-    → entries_in segment q (t + 2 * k) (n - k) ≡ entries_in segment q t n → false ≡ entries_in segment q t n
-entries_bad segment q t n k lt bad e = cc (entries_step segment q t n k lt)
-
--- an entry that leads into the part may be passed
-pub entries_good : (segment : List ℕ) (q : Proc) (t n k : ℕ) → k < n → leads_in segment q (t + 2 * k) ≡ true
+-- the test of an entry and of those after it, where all before it were passed
+pub entries_step : (segment : List ℕ) (q : Proc) (t n k : ℕ) (b : Bool) → k < n → leads_in segment q (t + 2 * k) ≡ b
     → entries_in segment q (t + 2 * k) (n - k) ≡ entries_in segment q t n
-    → entries_in segment q (t + 2 * (k + 1)) (n - (k + 1)) ≡ entries_in segment q t n
-entries_good segment q t n k lt good e = cc (entries_step segment q t n k lt)
-
--- all entries lead into the part if all were passed
-pub entries_done : (segment : List ℕ) (q : Proc) (t n k : ℕ) → n ≤ k
-    → entries_in segment q (t + 2 * k) (n - k) ≡ entries_in segment q t n → true ≡ entries_in segment q t n
+    → (b && entries_in segment q (t + 2 * (k + 1)) (n - (k + 1))) ≡ entries_in segment q t n
 unfolding entries_in
-entries_done segment q t n k le e = let none : n - k ≡ 0 = omega arith in cc
+entries_step segment q t n k b lt one same =
+    let next : n - k ≡ suc (n - (k + 1)) = omega arith in
+    let place : t + 2 * k + 2 ≡ t + 2 * (k + 1) = omega arith in
+    rw (← one, ← place) (rw next at same)

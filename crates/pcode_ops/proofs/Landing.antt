@@ -1,15 +1,14 @@
 -- Where jumps and case jumps lead that loading has let pass: to reached offsets of the segment.
-use Rattle.std.proofs.Common.{◌≡◌, ℕ, zero, suc, ◌+◌, ◌*◌, ◌<◌, ◌≤◌, ◌&&◌, true, length, List, Some, IsSome, Ok, inl, inr, refl, sym, ◌∙◌, arith, ℤ, pos, ◌-ℤ◌, ◌≤ℤ◌, int_le, unsigned_abs}
+use Rattle.std.proofs.Common.{◌≡◌, ℕ, zero, suc, ◌+◌, ◌<◌, ◌&&◌, length, List, Some, IsSome, Ok, inl, inr, refl, arith, ℤ, pos, ◌-ℤ◌, ◌≤ℤ◌, int_le, unsigned_abs}
 use Rattle.std.proofs.lemmas.Bool.{cond_both}
 use Rattle.std.proofs.lemmas.Bool.Decides.{nat_tests}
 use Rattle.std.proofs.lemmas.Int.{ints}
 use Rattle.std.proofs.lemmas.Option.{slice_get_cases}
 use Rattle.std.specs.Int.{w16, cast_signed}
-use Rattle.std.specs.Result.{result_ok}
 use Rattle.base.proofs.Steps.{bind_ok}
 use Rattle.pcode_file.specs.declared.file.Proc.{Proc}
 use Rattle.pcode_file.specs.InFile.{AreProcs}
-use Rattle.pcode_file.specs.Parts.{Parts, word, end_of, procedure_of}
+use Rattle.pcode_file.specs.Parts.{Parts, end_of, procedure_of}
 use Rattle.pcode_ops.specs.declared.instr.Instr.{Instr}
 use Rattle.pcode_ops.specs.declared.instr.Instr.TheVariants.{Xjp}
 use Rattle.pcode_ops.specs.declared.loading.Onward.{Onward}
@@ -18,8 +17,7 @@ use Rattle.pcode_ops.specs.Decoding.{instr_at}
 use Rattle.pcode_ops.specs.Jumps.{jump_in, StaysWith, case_of, IsCaseTable}
 use Rattle.pcode_ops.specs.Loading.{jump_to, Flow, Jumps, Branches, flow_of, flows_to, LeadsTo, JumpsWith, JumpsBy}
 use Rattle.pcode_ops.specs.Reach.{MayStand}
-use Rattle.pcode_ops.proofs.Entries.{entries_point}
-use Rattle.pcode_ops.proofs.Operating.{table_in}
+use Rattle.pcode_ops.proofs.Operating.{operands_fit}
 use Rattle.pcode_ops.proofs.Ruling.{cases_is, cases_made}
 
 -- ---- jumps
@@ -27,41 +25,27 @@ use Rattle.pcode_ops.proofs.Ruling.{cases_is, cases_made}
 -- a jump has a target, to which its flow leads
 flow_target : (segment : List ℕ) (q : Proc) (flow : Flow) (sb : ℤ) (next : ℕ) (o : Onward) → JumpsWith flow sb
     → flows_to segment q flow next ≡ Ok o → (t : ℕ) × (jump_to segment q sb next ≡ Ok t) × (o.target ≡ Some t)
-flow_target segment q (Jumps by) sb next o same e =
-    let b = bind_ok (jump_to segment q by next) _ o e in
-    (b.0, rw (← same) b.1, cc (b.2))
-flow_target segment q (Branches by) sb next o same e =
-    let b = bind_ok (jump_to segment q by next) _ o e in
-    (b.0, rw (← same) b.1, grind arith)
+flow_target segment q (Jumps by) sb next o same e = grind (arith, bind_ok (jump_to segment q by next) _ o e)
+flow_target segment q (Branches by) sb next o same e = grind (arith, bind_ok (jump_to segment q by next) _ o e)
 flow_target segment q other sb next o same e = absurd same
 
 -- a jump leads to an offset that is reached and owned by its procedure
 pub jump_stays : (p : Parts) (n : ℕ) (q : Proc) (instr : Instr) (sb : ℤ) (next : ℕ) → JumpsBy instr sb
     → MayStand p q instr next → procedure_of p.procs n ≡ Some q → StaysWith p n q sb next
-jump_stays p n q instr sb next jumps m at =
-    let h = flow_target p.segment q (flow_of instr) sb next m.leads jumps m.found in
-    let here : jump_in p n sb next ≡ Some h.0 = rw (at, h.1) refl in
-    record { leads = rw here refl; stays = λ t e. m.reached t (inr (inl (h.2 ∙ sym here ∙ e))) }
-
--- a forward jump that leads somewhere leads into the part
-lands : (segment : List ℕ) (q : Proc) (sb : ℤ) (next : ℕ) → pos 0 ≤ℤ sb → IsSome (result_ok (jump_to segment q sb next))
-    → next + unsigned_abs sb < end_of q
-lands segment q sb next from h = grind (arith, ints, nat_tests)
+jump_stays p n q instr sb next jumps m at = grind (arith, flow_target p.segment q (flow_of instr) sb next m.leads jumps m.found)
 
 -- a forward jump that leads somewhere leads into the segment
 pub forward_below : (p : Parts) (n : ℕ) (sb : ℤ) (next : ℕ) → AreProcs p.segment p.procs → pos 0 ≤ℤ sb
     → IsSome (jump_in p n sb next) → next + unsigned_abs sb < length p.segment
 forward_below p zero sb next h from leads = absurd cc
 forward_below p (suc k) sb next h from leads = elim (slice_get_cases p.procs k).1 [
-  | inl (q, _, at, _) ↦ omega (arith, (h.each k q at).table.below, lands p.segment q sb next from (rw at at leads))
+  | inl (q, _, at, _) ↦
+      let lands : next + unsigned_abs sb < end_of q = grind (arith, ints, nat_tests, (rw at at leads)) in
+      omega (arith, (h.each k q at).table.below, lands)
   | inr (_, none) ↦ absurd (cc (rw none at leads))
 ]
 
 -- ---- case jumps
-
--- an index from low to high has an entry
-within_cases : (low high x : ℤ) → (int_le low x && int_le x high) ≡ true → unsigned_abs (x -ℤ low) < cases low high
-within_cases low high x e = grind (arith, ints)
 
 -- a case jump leads for each word to one of its targets
 pub case_leads : (p : Parts) (q : Proc) (low high sb : ℤ) (table next w : ℕ)
@@ -70,17 +54,10 @@ case_leads p q low high sb table next w m =
     let x = cast_signed w16 w in
     rw (← (cases_is p.segment q table (cases low high) m.leads m.found).1)
     (cond_both (int_le low x && int_le x high) _ _ (λ t. LeadsTo p.segment (cases_made table (cases low high)) t)
-    (λ e. inr (inr (unsigned_abs (x -ℤ low), within_cases low high x e, refl))) (λ _. inl refl))
+    (λ e. inr (inr (unsigned_abs (x -ℤ low), grind (arith, ints), refl))) (λ _. inl refl))
 
 -- the table of a case jump lies in the segment, and its entries lead into the part
 pub case_table : (p : Parts) (i : ℕ) (q : Proc) (low high sb : ℤ) (table next : ℕ)
     → instr_at p.segment i ≡ Ok (Xjp low high sb table, next) → MayStand p q (Xjp low high sb table) next
     → IsCaseTable p.segment q low high table
-case_table p i q low high sb table next at m =
-    let in_code = table_in p.segment i (Xjp low high sb table) next at in
-    record { room = in_code.0; ends = in_code.1; entries = (cases_is p.segment q table (cases low high) m.leads m.found).0 }
-
--- an entry of a case table points backward
-pub entry_above : (segment : List ℕ) (q : Proc) (low high : ℤ) (table k : ℕ) → IsCaseTable segment q low high table
-    → k < cases low high → word segment (table + 2 * k) ≤ table + 2 * k
-entry_above segment q low high table k h lt = ((entries_point segment q table (cases low high)).0 h.entries k lt).1.0
+case_table p i q low high sb table next at m = grind (arith, operands_fit p.segment i (Xjp low high sb table) next at)

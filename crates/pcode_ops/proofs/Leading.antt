@@ -12,10 +12,11 @@ use Rattle.pcode_ops.specs.Rules.{LiesIn, Leads}
 use Rattle.pcode_ops.specs.Reach.{Reach, IsLoadable}
 use Rattle.pcode_ops.specs.Staying.{StaysInPart}
 use Rattle.pcode_ops.proofs.Apart.{lies_in}
-use Rattle.pcode_ops.proofs.LongerCode.{decoded_ends}
+use Rattle.pcode_ops.proofs.LongerCode.{decoded_longer}
 use Rattle.pcode_ops.proofs.Looking.{Looked, owner_is, fine_looked}
 use Rattle.pcode_ops.proofs.Operating.{operands_are}
 use Rattle.pcode_ops.proofs.Ruling.{flow_leads}
+use Rattle.pcode_ops.proofs.DecodedIsAt.{decoded_at}
 
 -- the UJP of a case jump lies in the part
 abbrev HasJump : Proc → Flow → Type 0
@@ -27,7 +28,7 @@ has_jump : (segment : List ℕ) (q : Proc) (i : ℕ) (instr : Instr) (j : ℕ) �
     → LiesIn q i → HasJump q (flow_of instr)
 has_jump segment q i (Xjp low high sb table) j e lies =
     let code : List ℕ = take (end_of q) segment in
-    let is = operands_are code i (Xjp low high sb table) j e in
+    let is = operands_are code i (Xjp low high sb table) j (decoded_at code i _ j e) in
     omega (arith, is.4.3, slice_get_within code _ 185 is.3, length-take (end_of q) segment)
 has_jump segment q i _ j e lies = tt
 
@@ -54,7 +55,7 @@ reached_stays p i loadable reach =
         instr = l.instr;
         next = l.next;
         found = l.decoded;
-        ends = decoded_ends p.segment (end_of l.q) i (l.instr, l.next) l.decoded;
+        ends = (decoded_longer p.segment (end_of l.q) i (l.instr, l.next) l.decoded).1;
         leads = l.leads;
         looked = l.looked;
         stays = looked_inside p i l;

@@ -4,7 +4,7 @@ use Rattle.pcode_ops.specs.declared.instr.Instr.{Instr}
 use Rattle.pcode_ops.specs.declared.instr.Instr.TheVariants.{Ixp, Xjp}
 use Rattle.pcode_ops.specs.declared.fault.OpFault.{OpFault}
 use Rattle.pcode_ops.specs.Opcodes.{Form, Alone, Numbered, WithLevels, WithSigned, Typed, Packed, Standard, CaseJump}
-use Rattle.pcode_ops.specs.At.{FitsWord, HasElements, Cases, Stands}
+use Rattle.pcode_ops.specs.At.{FitsWord, HasElements, Cases, Stands, At}
 use Rattle.pcode_ops.specs.Decoding.{instr_at}
 use Rattle.pcode_ops.specs.Walks.{IsTableIn}
 use Rattle.pcode_ops.proofs.Rows.{is_plain, makes_plain, row_makes_plain}
@@ -34,31 +34,22 @@ module _ (code : List ℕ) (i : ℕ) (instr : Instr) (j : ℕ) where
   stands_operands op CaseJump p h = rw h.6 h.5
   stands_operands op other p h = made_operands _ (p h.0 0) h.3
 
-  -- the operands of what is decoded are what loading checks
-  pub operands_are : instr_at code i ≡ Ok (instr, j) → HasOperands code i instr j
-  operands_are e =
-      let at = decoded_at code i instr j e in
+  -- the operands of what is in the code are what loading checks
+  pub operands_are : At code i instr j → HasOperands code i instr j
+  operands_are at =
       stands_operands at.opcode at.form (row_makes_plain at.row.0 at.opcode at.form at.row.1) at.stands
 
 -- ---- what follows of what is decoded
 
--- what follows for packed elements and for case tables
-checked_by : (code : List ℕ) (i : ℕ) (instr : Instr) (j : ℕ) → HasOperands code i instr j
+-- the packed elements of what is decoded fit a word, and the table of a case jump lies in the code
+pub operands_fit : (code : List ℕ) (i : ℕ) (instr : Instr) (j : ℕ) → instr_at code i ≡ Ok (instr, j)
     → HasElements instr × IsTableIn (length code) instr
-checked_by code i (Ixp elements width) j h = (h, tt)
-checked_by code i (Xjp low high sb table) j h = (tt, (omega (arith, h.4.3), omega (arith, h.5, h.6)))
-checked_by code i _ j h = (tt, tt)
-
--- the packed elements of what is decoded fit a word
-pub has_elements : (code : List ℕ) (i : ℕ) (instr : Instr) (j : ℕ) → instr_at code i ≡ Ok (instr, j) → HasElements instr
-has_elements code i instr j e = (checked_by code i instr j (operands_are code i instr j e)).0
-
--- the table of a case jump that is decoded lies in the code
-pub table_in : (code : List ℕ) (i : ℕ) (instr : Instr) (j : ℕ) → instr_at code i ≡ Ok (instr, j) → IsTableIn (length code) instr
-table_in code i instr j e = (checked_by code i instr j (operands_are code i instr j e)).1
+operands_fit code i (Ixp elements width) j e = (operands_are code i (Ixp elements width) j (decoded_at code i _ j e), tt)
+operands_fit code i (Xjp low high sb table) j e = grind (arith, operands_are code i (Xjp low high sb table) j (decoded_at code i _ j e))
+operands_fit code i _ j e = (tt, tt)
 
 -- the same of an answer
 pub table_found : (code : List ℕ) (i : ℕ) (r : Result (Instr × ℕ) OpFault) → r ≡ instr_at code i
     → IfOk r (λ found. IsTableIn (length code) found.0)
-table_found code i (Ok found) e = table_in code i found.0 found.1 (sym e)
+table_found code i (Ok found) e = (operands_fit code i found.0 found.1 (sym e)).1
 table_found code i (Err f) e = tt

@@ -1,5 +1,5 @@
 -- The table of instructions: its rows are apart, so an opcode's row is the one that has it.
-use Rattle.std.proofs.Common.{◌≡◌, ℕ, zero, suc, ◌+◌, ◌&&◌, ◌||◌, Bool, true, false, leb, List, [], ◌∷◌, map, Some, slice_get, refl, ap, arith}
+use Rattle.std.proofs.Common.{◌≡◌, ℕ, zero, suc, ◌+◌, ◌&&◌, ◌||◌, Bool, true, false, leb, List, [], ◌∷◌, map, Some, slice_get, refl, arith}
 use Rattle.std.proofs.lemmas.Bool.{and_parts, cond_both}
 use Rattle.std.proofs.lemmas.Bool.Decides.{nat_tests}
 use Rattle.pcode_ops.specs.declared.instr.Instr.{Instr}
@@ -28,16 +28,11 @@ abbrev are_apart : List (ℕ × Form) → Bool
 are_apart [] = true
 are_apart (r ∷ rs) = is_clear r rs && are_apart rs
 
--- two rows apart do not both have an opcode
-never_both : (op : ℕ) (a b : ℕ × Form) → are_two a b ≡ true → has_opcode op a.0 a.1 ≡ true → has_opcode op b.0 b.1 ≡ true → ⊥
-never_both op a b e f g = grind (arith, nat_tests)
-
 -- a row has no opcode of the rows that it is clear of
 has_no_other : (op : ℕ) (row : ℕ × Form) (rows : List (ℕ × Form)) (k : ℕ) (other : ℕ × Form) → is_clear row rows ≡ true
     → slice_get rows k ≡ Some other → has_opcode op row.0 row.1 ≡ true → has_opcode op other.0 other.1 ≡ true → ⊥
 has_no_other op row [] k other e at f g = absurd cc
-has_no_other op row (r ∷ rs) zero other e at f g =
-    let same : other ≡ r = cc in never_both op row r (and_parts _ _ e).0 f (rw same at g)
+has_no_other op row (r ∷ rs) zero other e at f g = grind (arith, nat_tests)
 has_no_other op row (r ∷ rs) (suc k) other e at f g = has_no_other op row rs k other (and_parts _ _ e).1 at f g
 
 -- the row that has an opcode is the first that has it
@@ -46,9 +41,7 @@ row_first : (op : ℕ) (rows : List (ℕ × Form)) (k : ℕ) (row : ℕ × Form)
 row_first op [] k row e at c = absurd cc
 row_first op (r ∷ rs) zero row e at c = cc
 row_first op (r ∷ rs) (suc k) row e at c =
-    let both = and_parts _ _ e in
-    cond_both (has_opcode op r.0 r.1) (Some r) (row_of op rs) (λ o. o ≡ Some row)
-    (λ t. absurd (has_no_other op r rs k row both.0 at t c)) (λ _. row_first op rs k row both.1 at c)
+    let both = and_parts _ _ e in grind (arith, has_no_other op r rs k row both.0 at, row_first op rs k row both.1 at c)
 
 -- the row of the table that has an opcode is the row of the opcode
 pub row_is : (op k : ℕ) (row : ℕ × Form) → slice_get opcodes k ≡ Some row → has_opcode op row.0 row.1 ≡ true → row_of op opcodes ≡ Some row
@@ -92,5 +85,4 @@ one_of f g (y ∷ ys) (suc k) x e at = one_of f g ys k x (cc) at
 
 -- the instructions that a row of the table makes are plain
 pub row_makes_plain : (k first : ℕ) (form : Form) → slice_get opcodes k ≡ Some (first, form) → (a b : ℕ) → makes_plain form a b ≡ true
-row_makes_plain k first form at a b =
-    ap (λ (f : ℕ → ℕ → Bool). f a b) (one_of (λ row. makes_plain row.1) (λ row a b. true) opcodes k (first, form) refl at)
+row_makes_plain k first form at a b = one_of (λ row. makes_plain row.1 a b) (λ row. true) opcodes k (first, form) refl at

@@ -61,10 +61,6 @@ module _ (segment : List ℕ) (q : Proc) where
 
   -- ---- where a flow leads
 
-  -- to the next offset
-  on_leads : (j t : ℕ) (o : Onward) → goes_on q j None ≡ Ok o → LeadsTo segment o t ↔ ((t ≡ j) × LiesIn q t)
-  on_leads j t o e = grind (arith, nat_tests)
-
   -- to the target, where P says what the target is
   jump_leads : {P : Type 0} (r : Result ℕ OpFault) (t : ℕ) (o : Onward) → (r ≡ Ok t) ↔ P → (r >>= λ u. Ok (ends_at (Some u))) ≡ Ok o
       → LeadsTo segment o t ↔ P
@@ -89,7 +85,7 @@ module _ (segment : List ℕ) (q : Proc) where
 
   -- a flow leads where the rules say
   pub flow_leads : (flow : Flow) (j t : ℕ) (o : Onward) → flows_to segment q flow j ≡ Ok o → LeadsTo segment o t ↔ Leads segment q flow j t
-  flow_leads On j t o e = on_leads j t o e
+  flow_leads On j t o e = grind (arith, nat_tests)
   flow_leads (Jumps sb) j t o e = jump_leads _ t o (jumps_to sb j t) e
   flow_leads (Branches sb) j t o e = branch_leads j _ t o (jumps_to sb j t) e
   flow_leads (Switches low high table) j t o e =
@@ -99,12 +95,8 @@ module _ (segment : List ℕ) (q : Proc) where
 
   -- ---- the next offset
 
-  -- where a flow goes on, the rules lead to the next offset
-  next_by : (flow : Flow) (j : ℕ) → HasNextBy flow → MayFlow segment q flow j → Leads segment q flow j j
-  next_by On j has m = (refl, m)
-  next_by (Branches sb) j has m = inr (refl, m.1)
-  next_by other j has m = absurd has
-
   -- a flow that goes on leads to the next offset
   pub next_led : (flow : Flow) (j : ℕ) (o : Onward) → HasNextBy flow → flows_to segment q flow j ≡ Ok o → LeadsTo segment o j
-  next_led flow j o has e = (flow_leads flow j j o e).1 (next_by flow j has ((may_flow flow j).0 (o, e)))
+  next_led On j o has e = inl (grind (arith, nat_tests))
+  next_led (Branches sb) j o has e = let b = bind_ok (jump_to segment q sb j) _ o e in inl (grind (arith, nat_tests, b.2))
+  next_led other j o has e = absurd has

@@ -1,5 +1,5 @@
 -- The search: what is marked is reached, and at its end what is reached is marked.
-use Rattle.std.proofs.Common.{◌≡◌, ℕ, ◌+◌, ◌<◌, ◌≤◌, ◌⊎◌, inl, inr, List, length, Some, Ok, Err, slice_get, refl, sym, ◌∙◌, arith, get_or}
+use Rattle.std.proofs.Common.{◌≡◌, ℕ, ◌+◌, ◌<◌, ◌≤◌, inl, inr, List, length, Some, Ok, Err, slice_get, refl, ◌∙◌, arith, get_or}
 use Rattle.std.proofs.lemmas.Option.{slice_get_within, slice_get-get_or}
 use Rattle.pcode_ops.specs.declared.fault.OpFault.{OpFault}
 use Rattle.pcode_file.specs.declared.file.Proc.{Proc}
@@ -7,11 +7,7 @@ use Rattle.pcode_file.specs.Parts.{Parts}
 use Rattle.pcode_ops.specs.declared.loading.Onward.{Onward}
 use Rattle.pcode_ops.specs.Loading.{look, LeadsTo}
 use Rattle.pcode_ops.specs.Reach.{Reach, entered, exited, followed}
-use Rattle.pcode_ops.specs.Walks.{Marks, IsMarked, IsListing, Adds, IsStarted, IsSearch, MarksReached}
-
--- what is below one more is below, or last
-less_or_last : (k n : ℕ) → k < n + 1 → (k < n) ⊎ (k ≡ n)
-less_or_last k n h = grind arith
+use Rattle.pcode_ops.specs.Walks.{Marks, IsMarked, IsListing, Adds, IsStarted, IsSearch}
 
 -- one more procedure is marked, the next as a loop reads it
 pub started_next : (file : Parts) (items : List Proc) (n : ℕ) (d : Proc) (a b c : Marks) → items ≡ file.procs → n < length items
@@ -20,18 +16,12 @@ pub started_next : (file : Parts) (items : List Proc) (n : ℕ) (d : Proc) (a b 
 started_next file items n d a b c same lt s p1 p2 =
     let q : Proc = get_or items n d in
     let e : slice_get file.procs n ≡ Some q = rw (← same) (slice_get-get_or items n d lt) in
+    let enter : Reach file q.enter = entered n q e in
+    let exit : Reach file q.exit = exited n q e in
     record {
       size = p2.size ∙ p1.size ∙ s.size;
-      sound = λ i h. elim (p2.only i h) [
-        | inl old ↦ elim (p1.only i old) [ inl older ↦ s.sound i older | inr here ↦ rw here (entered n q e) ]
-        | inr here ↦ rw here (exited n q e)
-      ];
-      starts = λ k r lt er. elim (less_or_last k n lt) [
-        | inl less ↦
-            let old = s.starts k r less er in
-            (p2.kept r.enter (p1.kept r.enter old.0), p2.kept r.exit (p1.kept r.exit old.1))
-        | inr last ↦ let one : q ≡ r = cc in rw (← one) (p2.kept q.enter (p1.added q.enter refl), p2.added q.exit refl)
-      ];
+      sound = λ i h. grind (arith, p2.only i h, p1.only i, s.sound i, enter, exit);
+      starts = λ k r lt er. grind (arith, s.starts k r, p1.kept, p2.kept, p1.added q.enter refl, p2.added q.exit refl);
     }
 
 -- ---- the search
@@ -50,29 +40,16 @@ search_goes_on file done m n at o s l e f a = record {
     starts = λ k q lt g. let old = s.started.starts k q lt g in (a.kept q.enter old.0, a.kept q.exit old.1);
   };
   within = omega (arith, slice_get_within m.found done at e, a.longer);
-  closed = λ k i j p lt g h to. elim (less_or_last k done lt) [
-    | inl less ↦ a.kept j (s.closed k i j p less (sym (a.front k (omega (arith, s.within))) ∙ g) h to)
-    | inr last ↦
-        let here : i ≡ at = cc (a.front done (slice_get_within m.found done at e)) in
-        let same : p ≡ o = cc in
-        a.added j (rw same at to)
-  ];
+  closed = λ k i j p lt g h to. grind (arith, a.kept j, a.added j, a.front k, s.closed k i j p, slice_get_within m.found done at e);
 }
 
 -- one more offset was looked at, and is faulty
 pub search_passes : (file : Parts) (done : ℕ) (m : Marks) (at : ℕ) (f : OpFault) → IsSearch file done m → slice_get m.found done ≡ Some at
     → look file at ≡ Err f → IsSearch file (done + 1) m
-search_passes file done m at f s e g = record {
-  started = s.started;
-  within = omega (arith, slice_get_within m.found done at e);
-  closed = λ k i j p lt h l to. elim (less_or_last k done lt) [
-    | inl less ↦ s.closed k i j p less h l to
-    | inr last ↦ let here : i ≡ at = cc in absurd cc
-  ];
-}
+search_passes file done m at f s e g = grind (arith, slice_get_within m.found done at e)
 
--- when all that was found was looked at
-reach_marked : (file : Parts) (done : ℕ) (m : Marks) → IsSearch file done m → IsListing m → length m.found ≤ done
+-- when all that was found was looked at, what is reached is marked
+pub reach_marked : (file : Parts) (done : ℕ) (m : Marks) → IsSearch file done m → IsListing m → length m.found ≤ done
     → (i : ℕ) → Reach file i → IsMarked m i
 reach_marked file done m s l le i (entered k q e) = (s.started.starts k q (slice_get_within file.procs k q e) e).0
 reach_marked file done m s l le i (exited k q e) = (s.started.starts k q (slice_get_within file.procs k q e) e).1
@@ -80,7 +57,3 @@ reach_marked file done m s l le i (followed from to o r e h) =
     let place = l.listed from (reach_marked file done m s l le from r) in
     let inside = slice_get_within m.found place.0 from place.1 in
     s.closed place.0 from to o (omega (arith, inside)) place.1 e h
-
--- at the end the marks are those of the reached offsets
-pub search_ends : (file : Parts) (done : ℕ) (m : Marks) → IsSearch file done m → IsListing m → length m.found ≤ done → MarksReached file m
-search_ends file done m s l le i = (s.started.sound i, reach_marked file done m s l le i)

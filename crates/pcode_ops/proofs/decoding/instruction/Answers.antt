@@ -13,9 +13,7 @@ finished_is code i op first form = grind arith
 some_by : (code : List ℕ) (i op : ℕ) (row : Row) (o : Option (ℕ × Form)) → Some row ≡ made_by (operands_at code i) op o
     → finished_at code i op row ≡ by_row code i op o
 some_by code i op row None e = absurd cc
-some_by code i op row (Some found) e =
-    let same : row ≡ row_with (operands_at code i) op found.0 found.1 = cc in
-    rw same (finished_is code i op found.0 found.1)
+some_by code i op row (Some found) e = cc (finished_is code i op found.0 found.1)
 
 -- an opcode without a row, likewise
 none_by : (code : List ℕ) (i op : ℕ) (o : Option (ℕ × Form)) → None ≡ made_by (operands_at code i) op o

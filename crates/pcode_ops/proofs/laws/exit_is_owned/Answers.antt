@@ -1,5 +1,5 @@
-use Rattle.pcode_ops.proofs.Allowed.{exit_owned}
+use Rattle.pcode_ops.proofs.Allowed.{ends_owned}
 use Rattle.pcode_ops.proofs.laws.exit_is_owned.Goals as goal
 
 pub returns : goal.returns
-returns c = exit_owned
+returns c = λ p n q procs at. (ends_owned p n q procs at).1

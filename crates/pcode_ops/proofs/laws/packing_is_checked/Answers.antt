@@ -1,5 +1,5 @@
-use Rattle.pcode_ops.proofs.Operating.{has_elements}
+use Rattle.pcode_ops.proofs.Operating.{operands_fit}
 use Rattle.pcode_ops.proofs.laws.packing_is_checked.Goals as goal
 
 pub returns : goal.returns
-returns c = has_elements
+returns c = λ code i instr j e. (operands_fit code i instr j e).0

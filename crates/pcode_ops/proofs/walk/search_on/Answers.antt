@@ -1,5 +1,5 @@
 use Rattle.std.proofs.Common.{rules, sym, arith}
-use Rattle.pcode_ops.proofs.Searching.{search_goes_on, search_passes, search_ends}
+use Rattle.pcode_ops.proofs.Searching.{search_goes_on, search_passes, reach_marked}
 use Rattle.pcode_ops.proofs.walk.search_on.Goals as goal
 use Rattle.pcode_ops.proofs.walk.search_on.Goals.{in-Ok, in-Err}
 
@@ -14,4 +14,6 @@ loop-done-preserved c =
     ]
 
 pub returns-clause-exact : goal.returns-clause-exact
-returns-clause-exact c = search_ends _ c.loop-done.done _ c.loop-done.invariant c.len.ensures.listing (omega arith)
+returns-clause-exact c =
+    let s = c.loop-done.invariant in
+    λ i. (s.started.sound i, reach_marked _ c.loop-done.done _ s c.len.ensures.listing (omega arith) i)
