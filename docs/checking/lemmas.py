@@ -2,6 +2,7 @@
 import re
 
 from . import tree
+from .pages import SHARED_LEMMAS
 from .tree import fault, text_of
 
 # A lemma with its place on the line. What the prover asks for has the type `goal.NAME`.
@@ -18,9 +19,12 @@ def texts_of_proofs():
 
 
 def lemmas_of(text):
-    """The lemmas of a file of proofs, each with its indent: not the fields of a record."""
+    """The lemmas of a file of proofs, each with its indent: what has a clause, and no field of a record."""
     fields = {it.start(1) + at.start() for it in RECORD.finditer(text) for at in SIGNATURE.finditer(it[1])}
-    return [(len(it[1]), it[2]) for it in SIGNATURE.finditer(text) if it.start() not in fields]
+    for it in SIGNATURE.finditer(text):
+        clause = re.compile(rf"^{it[1]}{re.escape(it[2])}(?![\w'-])(?! :)", re.M)
+        if it.start() not in fields and clause.search(text):
+            yield len(it[1]), it[2]
 
 
 def others(text, indent, name):
@@ -34,6 +38,12 @@ def others(text, indent, name):
             yield line
 
 
+def may_cite(path, home):
+    """Whether a file may cite the lemmas of another: of its own crate, and what all crates share."""
+    module = home.removeprefix("crates/").removesuffix("antt").replace("/", ".")
+    return path.split("/")[1] == home.split("/")[1] or SHARED_LEMMAS.match(module) is not None
+
+
 def check():
     texts = dict(texts_of_proofs())
     homes = {}
@@ -44,5 +54,6 @@ def check():
         if "/proofs/" not in path or path.startswith("crates/base/"):
             continue
         for indent, name in lemmas_of(text):
-            if homes[name] == {path} and not any(name in WORD.findall(it) for it in others(text, indent, name)):
+            is_alone = not any(may_cite(it, path) for it in homes[name] - {path})
+            if is_alone and not any(name in WORD.findall(it) for it in others(text, indent, name)):
                 fault(f"{path}: nothing cites {name}")

@@ -12,7 +12,7 @@ use Rattle.paxos_msg.specs.Batches.{Sent}
 use Rattle.paxos_msg.specs.Tests.{same_ballot, same_value}
 use Rattle.paxos_learner.specs.Tallies.{has_node, no_nodes, with_node}
 use Rattle.paxos_learner.specs.Learner.{Learner, learn, new_learner, heard_accepted, heard_tell}
-use Rattle.paxos_learner.specs.Backed.{IsLearnerBacked, IsTallied, MayLearn, Stays}
+use Rattle.paxos_learner.specs.Backed.{IsLearnerBacked, IsTallied, MayLearn}
 use Rattle.paxos_learner.proofs.OnePlace.{each_put, get_left}
 use Rattle.paxos_learner.proofs.Hearing.{accepted_by, told_by, tallied_by}
 
@@ -48,9 +48,6 @@ module _ (sent : Sent) (l : Learner) where
 
   pub told_backed : (s : ℕ) (v : Value) → IsLearnerBacked sent l → IsSaid sent (Tell s v) → IsLearnerBacked sent (heard_tell l s v).learner
   told_backed s v h told = told_by (IsLearnerBacked sent) l h s v (λ here. learn_backed s v h (inl told))
-
-pub backed_later : (sent next : Sent) (l : Learner) → Stays sent next → IsLearnerBacked sent l → IsLearnerBacked next l
-backed_later sent next l later h = grind arith
 
 pub begun_backed : (sent : Sent) (size : ℕ) → IsLearnerBacked sent (new_learner size)
 begun_backed sent size = record { tallied = λ s t e. grind (arith, get-empty); learned = λ s v e. grind (arith, get-empty) }

@@ -16,9 +16,6 @@ use Rattle.paxos_proposer.specs.Proposer.{Proposer, is_covered_by, coverage_of, 
 use Rattle.paxos_proposer.specs.Backed.{HasPromises, IsProposerBacked}
 use Rattle.paxos_proposer.proofs.Reported.{AreByPlace, merged, are_ascending, none_upto, heard_below, heard_from}
 
-at_most_refl : (a : Ballot) → IsAtMost a a
-at_most_refl a = grind arith
-
 -- a ballot that is not below another is not below it
 not_less : (b c : Ballot) → ballot_lt b c ≡ false → IsAtMost c b
 not_less b c e = grind (arith, nat_tests)
