@@ -3,10 +3,10 @@ ghost use Rattle.base.specs.Faults.{HasRisen};
 ghost use Rattle.std.specs.Prelude.{◌≡◌, ℕ, List, Option, None, IfOk, IsSomeAnd, OnOk, IsErrOf};
 ghost use Rattle.paxos_msg.specs.Batches.{Record as Kept};
 ghost use Rattle.paxos_msg.specs.Records.{changed};
-ghost use Rattle.paxos_disk.specs.Disks.{IsSyncedFrom, MayFind, Remains, seen_in};
+ghost use Rattle.paxos_disk.specs.Disks.{IsSyncedFrom, MayFind, Remains};
 ghost use Rattle.paxos_disk.specs.Entries.{IsEntry};
 ghost use Rattle.paxos_disk.specs.Files.{Finds, Notes};
-ghost use Rattle.paxos_disk.specs.Reads.{IsGood, Reads, Restarts, record_in};
+ghost use Rattle.paxos_disk.specs.Reads.{IsGood, Reads, Restarts, record_in, stored_in};
 ghost use Rattle.paxos_acceptor.specs.Stores.{CountsIf, IsOneOf};
 
 use crate::codec::record_is_spelling;
@@ -150,7 +150,7 @@ impl<D: Disk> Store for LogStore<D> {
       honest = D.honest;
       fails_at_will = ⊥;
       state = λ s. record {
-        stored = record_in s.filed.me (seen_in (D.folder s.disk));
+        stored = stored_in D.folder s;
         plan = None;
         faults = s.filed.faults;
       };
@@ -166,8 +166,7 @@ impl<D: Disk> Store for LogStore<D> {
     /// has failed before.
     fn load(&mut self) -> Result<Record, StoreFault>
         ensures loads { Finds self.old.filed self.new.filed result }
-        ensures found { D.honest → IfOk result
-            (λ r. r ≡ record_in self.old.filed.me (seen_in (D.folder self.old.disk))) }
+        ensures found { D.honest → IfOk result (λ r. r ≡ stored_in D.folder self.old) }
         ensures good { D.honest → ¬ IsErrOf result StoreFault.Bad }
         ensures remains { D.honest → Remains (D.folder self.old.disk) (D.folder self.new.disk) }
         ensures synced { D.honest
@@ -202,18 +201,14 @@ impl<D: Disk> Store for LogStore<D> {
         ensures notes { Notes self.old.filed self.new.filed change.now result }
         ensures good { ¬ IsErrOf result StoreFault.Bad }
         ensures saved { D.honest → OnOk result
-            (record_in self.old.filed.me (seen_in (D.folder self.new.disk))
-            ≡ changed (record_in self.old.filed.me (seen_in (D.folder self.old.disk))) change.now) }
+            (stored_in D.folder self.new ≡ changed (stored_in D.folder self.old) change.now) }
         ensures memory { D.honest → IsErrOf result StoreFault.Memory
             → D.folder self.new.disk ≡ D.folder self.old.disk }
-        ensures device { D.honest → IsOneOf
-            (record_in self.old.filed.me (seen_in (D.folder self.new.disk)))
-            (record_in self.old.filed.me (seen_in (D.folder self.old.disk)))
-            (changed (record_in self.old.filed.me (seen_in (D.folder self.old.disk))) change.now) }
+        ensures device { D.honest → IsOneOf (stored_in D.folder self.new)
+            (stored_in D.folder self.old) (changed (stored_in D.folder self.old) change.now) }
         ensures restarts { D.honest
             → Restarts self.old.filed.me (D.folder self.old.disk) (D.folder self.new.disk)
-            (record_in self.old.filed.me (seen_in (D.folder self.old.disk)))
-            (changed (record_in self.old.filed.me (seen_in (D.folder self.old.disk))) change.now)
+            (stored_in D.folder self.old) (changed (stored_in D.folder self.old) change.now)
             result }
         ensures cause { D.honest → IsSomeAnd self.old.filed.found
             (λ r. IsEntry self.old.filed.me.group.size r change.now)
