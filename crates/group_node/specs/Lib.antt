@@ -6,5 +6,6 @@ pub mod Player
 pub mod Console
 pub mod States
 pub mod Calls
+pub mod NodeCalls
 pub mod Deeds
 pub mod WrongSteps

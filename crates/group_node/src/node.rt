@@ -1,15 +1,15 @@
 //! One node of a group.
-ghost use Rattle.std.specs.Prelude.{◌≡◌, ◌↔◌, ◌+◌, ◌⊎◌, ◌<◌, ◌≤◌, ℕ, List, [], ◌∷◌, false, length, option_map, slice_get, IsSome, IfErr, IfNone, IfOk, IsErrOf, OnErr, OnSome};
+ghost use Rattle.std.specs.Prelude.{◌≡◌, ◌+◌, ◌⊎◌, ◌<◌, ◌≤◌, ℕ, List, [], ◌∷◌, false, length, option_map, slice_get, IsSome, IfErr, IfNone, IfOk, IsErrOf, OnErr, OnSome};
 ghost use Rattle.std.specs.FinMap.{get};
 ghost use Rattle.paxos_msg.specs.Datagrams.{Fits};
 ghost use Rattle.paxos_acceptor.specs.Calls.{FailsOnlyWith, IsAmong};
 ghost use Rattle.paxos_learner.specs.Learner.{IsFront};
-ghost use Rattle.paxos_msg.specs.declared.limits.TheConstants.{LAST_SERIAL, PLACES};
+ghost use Rattle.paxos_msg.specs.declared.limits.TheConstants.{PLACES};
 ghost use Rattle.group_protocol.specs.declared.limits.TheConstants.{MOST_WAITING, TICK_PACKETS};
-ghost use Rattle.group_protocol.specs.Calls.{IsCampaignRefused, IsLet, RefusesIfStopped};
+ghost use Rattle.group_protocol.specs.Calls.{IsCampaignRefused, IsLet, IsTypingRefused, RefusesIfStopped};
 ghost use Rattle.group_node.specs.Calls.{Responds, Sends};
 ghost use Rattle.group_protocol.specs.Protocol.{answer_to, NeedsMemory};
-ghost use Rattle.group_protocol.specs.Known.{on_typed, front, new_key, next_serial};
+ghost use Rattle.group_protocol.specs.Known.{on_typed, front, new_key};
 ghost use Rattle.group_protocol.specs.ProposerRows.{is_leading, own_ballot, on_campaign};
 ghost use Rattle.group_protocol.specs.Tick.{on_tick};
 ghost use Rattle.group_node.specs.Output.{IsReplay, no_progress, RunsOn, unreleased_of};
@@ -140,13 +140,8 @@ impl<'a, S: Store> Node<'a, S> {
             × (self.new.progress ≡ self.old.progress) }
         ensures err { IfErr result (λ _. self.new ≡ self.old) }
         ensures stopped { RefusesIfStopped self.old.protocol result }
-        ensures busy { IsErrOf result NodeFault.Busy
-            ↔ ((self.old.protocol.is_stopped ≡ false)
-            × (length self.old.protocol.known.waiting ≡ MOST_WAITING)) }
-        ensures spent { IsErrOf result NodeFault.SerialSpent
-            ↔ ((self.old.protocol.is_stopped ≡ false)
-            × (length self.old.protocol.known.waiting < MOST_WAITING)
-            × (next_serial self.old.protocol.known ≡ LAST_SERIAL + 1)) }
+        ensures refuses { self.old.protocol.is_stopped ≡ false
+            → IsTypingRefused self.old.protocol.known result }
         ensures others { FailsOnlyWith (NodeFault.Stopped ∷ NodeFault.Busy
             ∷ NodeFault.SerialSpent ∷ []) result }
     {

@@ -13,11 +13,12 @@ use Rattle.paxos_acceptor.specs.declared.me.Me.{Me}
 use Rattle.group_node.specs.Deeds.{Deed, Hear}
 use Rattle.group_protocol.specs.Packets.{Datagram}
 use Rattle.group_wire.specs.Arrivals.{Spells}
-use Rattle.group_wire.specs.Doings.{DoesAll, DoesOnWire, Doing, FailsDeed, Working}
+use Rattle.group_node.specs.NodeCalls.{Running}
+use Rattle.group_wire.specs.Doings.{DoesAll, DoesOnWire, Doing, FailsDeed}
 use Rattle.group_wire.specs.Traffic.{letters_of}
 use Rattle.group_world.specs.Processes.{Entry, IsCarried, entries_of}
 use Rattle.group_world.specs.Event.{HearsOf}
-use Rattle.group_process.specs.Network.{AreDelivered, AreLetters, IsNetworkLog, Received, entries_alone, given_for, received_at, received_by, received_in, with_given}
+use Rattle.group_process.specs.Network.{AreDelivered, AreLetters, IsNetworkLog, GivenEntry, entries_alone, given_for, received_at, received_by, received_in, with_given}
 use Rattle.group_process.specs.Runs.{AreRuns, Attempt, FailsToStart, IsAttempt, IsGroupLog, NodeRun, Starts, ends_by, entries_of_attempt, record_left}
 use Rattle.group_process.proofs.GivenWasSent.{ReadLaw, letter_sent, message_sent}
 use Rattle.group_protocol.proofs.Elements.{first_in}
@@ -29,12 +30,12 @@ all_append P (x ∷ xs) ys h g = (h.0, all_append P xs ys h.1 g)
 
 -- ---- the entries of one node
 
-entries_without : (i : ℕ) (log : List Received) → entries_of i (entries_alone log) ≡ map (λ (e : Received). e.entry) (received_by i log)
+entries_without : (i : ℕ) (log : List GivenEntry) → entries_of i (entries_alone log) ≡ map (λ (e : GivenEntry). e.entry) (received_by i log)
 entries_without i [] = refl
 entries_without i (x ∷ log) = grind (arith, nat_tests, entries_without i log)
 
 -- what holds of the entries of each node holds of all
-all_by_node : (P : Received → Type 0) (log : List Received) → ((i : ℕ) → AllByRecursion P (received_by i log)) → AllByRecursion P log
+all_by_node : (P : GivenEntry → Type 0) (log : List GivenEntry) → ((i : ℕ) → AllByRecursion P (received_by i log)) → AllByRecursion P log
 all_by_node P [] h = tt
 all_by_node P (x ∷ log) h = (own (h x.entry.node), all_by_node P log (λ i. rest i (h i)))
   where
@@ -46,7 +47,7 @@ all_by_node P (x ∷ log) h = (own (h x.entry.node), all_by_node P log (λ i. re
 
 -- ---- the entries of runs
 
-abbrev entry_in : Received → Entry
+abbrev entry_in : GivenEntry → Entry
 entry_in e = e.entry
 
 -- the entries of a start, and of several, without what was given
@@ -63,19 +64,19 @@ abbrev HearsGiven : Group → List (Option (List ℕ)) → Deed → Type 0
 HearsGiven group given (Hear m) = (bytes : List ℕ) × Spells group bytes m × Contains given (Some bytes)
 HearsGiven group given _ = Unit {0}
 
-abbrev IsGiven : Group → Received → Type 0
+abbrev IsGiven : Group → GivenEntry → Type 0
 IsGiven group e = HearsGiven group e.given e.entry.deed
 
 module _ (p : Parts) (me : Me) where
-  does_given : (w v : Working) (d : Doing) (deed : Deed) → DoesOnWire me w deed d v → HearsGiven me.group d.given deed
+  does_given : (w v : Running) (d : Doing) (deed : Deed) → DoesOnWire me w deed d v → HearsGiven me.group d.given deed
   does_given w v d (Hear m) (bytes, spells, given, made) = (bytes, spells, rw given (first_in (Some bytes) []))
   does_given w v d _ h = tt
 
-  fails_given : (w : Working) (d : Doing) (deed : Deed) → FailsDeed me w deed d → HearsGiven me.group d.given deed
+  fails_given : (w : Running) (d : Doing) (deed : Deed) → FailsDeed me w deed d → HearsGiven me.group d.given deed
   fails_given w d (Hear m) (bytes, spells, given, silent) = (bytes, spells, rw given (first_in (Some bytes) []))
   fails_given w d _ h = tt
 
-  all_given : (w v : Working) (doings : List Doing) → DoesAll me w doings v
+  all_given : (w v : Running) (doings : List Doing) → DoesAll me w doings v
       → AllByRecursion (IsGiven me.group) (map (received_at me.node) doings)
   all_given w v [] h = tt
   all_given w v (d ∷ doings) (mid, does, rest) = (does_given w mid d d.deed does, all_given mid v doings rest)
@@ -110,18 +111,18 @@ module _ (read : ReadLaw) (group : Group) (session : IsGroup group) where
       message_sent read group sent bytes m session spells.spelled there
   one_carried sent given _ letters h = tt
 
-  all_carried : (sent : List Datagram) (log : List Received) → AreDelivered group sent log → AllByRecursion (IsGiven group) log
+  all_carried : (sent : List Datagram) (log : List GivenEntry) → AreDelivered group sent log → AllByRecursion (IsGiven group) log
       → IsCarried group sent (entries_alone log)
   all_carried sent [] h given = tt
   all_carried sent (e ∷ log) h given =
       (one_carried sent e.given e.entry.deed h.0 given.0, all_carried (sent ++ e.entry.sent) log h.1 given.1)
 
-  all_among : (log : List Received) → AllByRecursion (λ e. IsNode group.size e.entry.node) log
+  all_among : (log : List GivenEntry) → AllByRecursion (λ e. IsNode group.size e.entry.node) log
       → AllByRecursion (λ (e : Entry). IsNode group.size e.node) (entries_alone log)
   all_among [] h = tt
   all_among (e ∷ log) h = (h.0, all_among log h.1)
 
-  pub network_log : (p : Parts) (runs : ℕ → List Attempt) (log : List Received) → IsNetworkLog p group runs log
+  pub network_log : (p : Parts) (runs : ℕ → List Attempt) (log : List GivenEntry) → IsNetworkLog p group runs log
       → IsGroupLog p group runs (entries_alone log)
   network_log p runs log h =
       let me : ℕ → Me = λ i. record { node = i; group = group } in

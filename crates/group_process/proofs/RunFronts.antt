@@ -11,7 +11,8 @@ use Rattle.paxos_msg.specs.Records.{empty_record}
 use Rattle.paxos_acceptor.specs.declared.me.Me.{Me}
 use Rattle.group_node.specs.Deeds.{Start}
 use Rattle.group_protocol.specs.Packets.{Datagram}
-use Rattle.group_wire.specs.Doings.{DoesAll, Doing, Working}
+use Rattle.group_node.specs.NodeCalls.{Running}
+use Rattle.group_wire.specs.Doings.{DoesAll, Doing}
 use Rattle.group_wire.specs.Process.{Process, started}
 use Rattle.group_world.specs.declared.event.Outcome.TheVariants.{Kept}
 use Rattle.group_world.specs.Processes.{Entry, IsCarried, entries_of}
@@ -51,7 +52,7 @@ carried_front group sent (e ∷ log) more h = (h.0, carried_front group (sent ++
 
 module _ (p : Parts) (me : Me) where
   -- the deeds of a front
-  does_front : (w v : Working) (front rest : List Doing) → DoesAll me w (front ++ rest) v → (mid : Working) × DoesAll me w front mid
+  does_front : (w v : Running) (front rest : List Doing) → DoesAll me w (front ++ rest) v → (mid : Running) × DoesAll me w front mid
   does_front w v [] rest h = (w, refl)
   does_front w v (d ∷ front) rest (next, does, more) =
       let (mid, others) = does_front next v front rest more in

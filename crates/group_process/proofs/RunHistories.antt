@@ -1,37 +1,37 @@
 -- What a process does on its wire, deed by deed, as a history of its node. Its console grows only by a
 -- release, to the length of what its run has released by then.
-use Rattle.std.proofs.Common.{◌≡◌, ◌≢◌, ◌<◌, ◌≤◌, ◌+◌, ◌∙◌, ◌⊎◌, ℕ, Bool, if◌then◌else◌, List, [], ◌∷◌, ◌++◌, flat_map, length, map, Option, Some, None, IfSome, inl, inr, refl, sym, arith}
+use Rattle.std.proofs.Common.{◌≡◌, ◌≢◌, ◌≤◌, ◌+◌, ◌∙◌, ◌⊎◌, ℕ, Bool, if◌then◌else◌, List, [], ◌∷◌, ◌++◌, flat_map, length, map, Option, Some, None, IfSome, inl, inr, refl, sym, arith}
 use Rattle.std.proofs.lemmas.Bool.Decides.{nat_tests}
 use Rattle.std.proofs.lemmas.List.{append-nil, length-append}
 use Rattle.std.specs.List.{Contains}
 use Rattle.pcode_file.specs.Parts.{Parts}
 use Rattle.paxos_msg.specs.declared.record.Change.TheVariants as change
-use Rattle.paxos_msg.specs.declared.value.Value.{Value}
 use Rattle.paxos_msg.specs.Batches.{Change, Record}
 use Rattle.paxos_acceptor.specs.declared.me.Me.{Me}
 use Rattle.group_protocol.proofs.Elements.{first_in, rest_in}
-use Rattle.group_protocol.specs.Known.{Known, Response, front, new_key, next_serial, on_start, on_typed}
+use Rattle.group_protocol.specs.Known.{Known, Response, on_start}
 use Rattle.group_node.specs.Console.{offered}
 use Rattle.group_node.specs.Output.{Progress, no_progress}
 use Rattle.group_protocol.specs.Protocol.{on_message}
-use Rattle.group_protocol.specs.ProposerRows.{last_round, on_campaign}
+use Rattle.group_protocol.specs.ProposerRows.{on_campaign}
 use Rattle.group_protocol.specs.Tick.{on_tick}
-use Rattle.group_wire.specs.Doings.{DoesAll, Doing, FailsDeed, RespondsOnWire, SendsNothing, Working}
+use Rattle.group_node.specs.NodeCalls.{Running, Makes, NodeCall, Refuses, call_of_campaign, call_of_press, call_of_start}
+use Rattle.group_wire.specs.Doings.{DoesAll, Doing, FailsDeed, IsMade, MakesOnWire, SendsNothing}
 use Rattle.group_wire.specs.Doings as wire
 use Rattle.group_world.specs.declared.event.Outcome.TheVariants.{Kept}
 use Rattle.group_world.specs.Event.{plan_of}
-use Rattle.group_world.specs.Member.{Makes, Member, NodeCall, Running, at_progress, call_of_campaign, call_of_press, call_of_start, member_after_call, member_after_fall, member_after_release}
+use Rattle.group_world.specs.Member.{Member, at_progress, member_after_call, member_after_fall, member_after_release}
 use Rattle.group_node.specs.Deeds.{Campaign, Crash, Deed, Hear, Idle, Press, Release, Run, Start, Tick}
 use Rattle.group_world.specs.declared.event.Done.TheVariants.{Applied, Fell}
 use Rattle.group_world.specs.Deeds.{DoesDeed, EndsCall, Left}
 use Rattle.group_world.specs.Processes.{Entry, IsHistory, left_by}
-use Rattle.group_process.specs.Runs.{AreRuns, Attempt, FailsToStart, GoesOn, IsAttempt, IsOver, NodeRun, Stand, StandsWith, Starts, end_after, run_end, ends_by, entries_of_attempt, entry_by, failed_as, fall_of, fallen_record, kept_after, node_after, node_by, node_left, record_after, record_by, record_left, record_of, node_at_work, silent_entry, unsaved}
+use Rattle.group_process.specs.Runs.{AreRuns, Attempt, FailsToStart, GoesOn, IsAttempt, IsOver, NodeRun, Stand, StandsWith, Starts, end_after, run_end, ends_by, entries_of_attempt, entry_by, failed_as, fall_of, fallen_record, kept_after, node_after, node_by, node_left, record_after, record_by, record_left, record_of, silent_entry, unsaved}
 use Rattle.group_wire.specs.Process.{started}
 
 -- the node is up, with the record that it knows; its console was so before its run, or is no longer
 -- than what the run has released
-record IsAt (shown : List ℕ) (w : Working) (m : Member) : Type 0 where
-  up : m.node ≡ Some (node_at_work w)
+record IsAt (shown : List ℕ) (w : Running) (m : Member) : Type 0 where
+  up : m.node ≡ Some w
   kept : m.kept ≡ w.known.kept
   shows : (m.console ≡ shown) ⊎ (length m.console ≤ w.progress.released)
 
@@ -44,12 +44,8 @@ call_falls : (me : Me) (m : Member) (progress : Progress) (call : NodeCall) (mad
     (left_by e Fell (member_after_fall m (if is_kept then made.node.kept else kept)))
 call_falls me m progress call made c is_kept e kept had is saves (sends, types) = grind arith
 
-press_makes : (n : Known) (byte : ℕ) → length n.waiting ≢ 256 → next_serial n ≢ 4294967296
-    → call_of_press n byte ≡ Makes (on_typed n byte) (new_key n byte ∷ [])
-press_makes n byte room serial = grind (arith, nat_tests)
-
-campaign_makes : (n : Known) → last_round n < 4294967295 → front n ≢ 65536 → call_of_campaign n ≡ Makes (on_campaign n) []
-campaign_makes n round place = grind (arith, nat_tests)
+campaign_makes : (n : Known) → IsMade (call_of_campaign n) → call_of_campaign n ≡ Makes (on_campaign n) []
+campaign_makes n made = grind (arith, nat_tests)
 
 start_makes : (me : Me) (r : Record) → r.starts ≢ 4294967295 → call_of_start me r ≡ Makes (on_start me r) []
 start_makes me r spare = grind (arith, nat_tests)
@@ -64,47 +60,44 @@ module _ (p : Parts) (me : Me) where
   abbrev Calls : Member → Option Bool → (Known → NodeCall) → Left → Type 0
   Calls m plan call left = (q : Running) × (m.node ≡ Some q) × EndsCall me m q.progress plan (call q.known) left
 
-  -- a response
-  responds : {shown : List ℕ} {w v : Working} {m : Member} (d : Doing) (call : Known → NodeCall) (made : Response) (keys : List Value)
-      → IsAt shown w m → call w.known ≡ Makes made keys → RespondsOnWire me w made keys d v
+  -- a call that is made
+  makes : {shown : List ℕ} {w v : Running} {m : Member} (d : Doing) (call : Known → NodeCall) (made : NodeCall) → IsAt shown w m
+      → call w.known ≡ made → MakesOnWire me w made d v
       → (new : Member) × Calls m None call (left_by (entry_by me.node Kept d) Applied new) × IsAt shown v new
-  responds {w = w} {m = m} d call made keys at is (left, sends, types) =
-      (member_after_call made m.console w.progress, (node_at_work w, at.up, grind arith), grind arith)
+  makes d call (Refuses f) at is none = absurd none
+  makes {w = w} {m = m} d call (Makes done keys) at is (left, sends, types) =
+      (member_after_call done m.console w.progress, (w, at.up, grind arith), grind arith)
 
   -- one deed
-  deed_is_entry : {shown : List ℕ} {w v : Working} {m : Member} (d : Doing) (deed : Deed) → IsAt shown w m
+  deed_is_entry : {shown : List ℕ} {w v : Running} {m : Member} (d : Doing) (deed : Deed) → IsAt shown w m
       → wire.DoesOnWire me w deed d v
       → (new : Member) × DoesDeed p me m None deed (left_by (entry_by me.node Kept d) Applied new) × IsAt shown v new
   deed_is_entry d (Start r) at none = absurd none
   deed_is_entry d Crash at none = absurd none
   deed_is_entry {m = m} d Idle at (left, silent) = (m, cc, rw left at)
-  deed_is_entry {w = w} d (Hear x) at (bytes, spelled, given, made) =
-      responds d (λ n. Makes (on_message n x.sender x.body) []) (on_message w.known x.sender x.body) [] at refl made
-  deed_is_entry {w = w} d (Press byte) at (low, room, serial, given, made) =
-      let (new, (q, up, ends), next) = responds d (λ n. call_of_press n byte) (on_typed w.known byte) (new_key w.known byte ∷ []) at
-      (press_makes w.known byte room serial) made in
-      (new, (q, up, low, ends), next)
-  deed_is_entry {w = w} d Campaign at (round, place, given, made) =
-      responds d call_of_campaign (on_campaign w.known) [] at (campaign_makes w.known round place) made
-  deed_is_entry {w = w} d Tick at (given, made) = responds d (λ n. Makes (on_tick n) []) (on_tick w.known) [] at refl made
+  deed_is_entry d (Hear x) at (bytes, spelled, given, made) = makes d (λ n. Makes (on_message n x.sender x.body) []) _ at refl made
+  deed_is_entry d (Press byte) at (low, given, made) =
+      let (new, (q, up, ends), next) = makes d (λ n. call_of_press n byte) _ at refl made in (new, (q, up, low, ends), next)
+  deed_is_entry d Campaign at (given, made) = makes d call_of_campaign _ at refl made
+  deed_is_entry d Tick at (given, made) = makes d (λ n. Makes (on_tick n) []) _ at refl made
   deed_is_entry {w = w} {v} {m} d (Run steps) at (ran, same, runs, replay, given, silent) = (
-    at_progress m (node_at_work w) v.progress,
+    at_progress m w v.progress,
     (
-      node_at_work w,
+      w,
       at.up,
       record { progress = v.progress; ran = ran; runs = runs; replay = replay; new_is = refl },
       rw (silent.0, silent.1) refl,
     ),
-    record { up = cc; kept = cc; shows = rw runs.rest at.shows },
+    record { up = rw (← same) refl; kept = cc; shows = rw runs.rest at.shows },
   )
   deed_is_entry {w = w} {m = m} d Release at (byte, waits, left, given, silent) = (
-    member_after_release m (node_at_work w) (Some byte),
-    (node_at_work w, at.up, rw waits cc),
+    member_after_release m w (Some byte),
+    (w, at.up, rw waits cc),
     rw left (record { up = refl; kept = at.kept; shows = release_shows m.console w.progress.released byte at.shows }),
   )
 
   -- all deeds
-  doings_are_entries : {shown : List ℕ} (w v : Working) (m : Member) (doings : List Doing) → IsAt shown w m → DoesAll me w doings v
+  doings_are_entries : {shown : List ℕ} (w v : Running) (m : Member) (doings : List Doing) → IsAt shown w m → DoesAll me w doings v
       → (last : Member) × IsHistory p me m (map (entry_by me.node Kept) doings) last × IsAt shown v last
   doings_are_entries w v m [] at same = (m, refl, rw same at)
   doings_are_entries w v m (d ∷ doings) at (mid, does, rest) =
@@ -127,12 +120,12 @@ module _ (p : Parts) (me : Me) where
   start_is_entry m loaded spare down read = grind arith
 
   -- an end without a failed save
-  crash_ends : {shown : List ℕ} (w : Working) (m : Member) → IsAt shown w m
+  crash_ends : {shown : List ℕ} (w : Running) (m : Member) → IsAt shown w m
       → IsHistory p me m (silent_entry me.node Crash ∷ []) (member_after_fall m w.known.kept)
-  crash_ends w m at = (member_after_fall m m.kept, (Applied, (node_at_work w, at.up, refl)), rw at.kept refl)
+  crash_ends w m at = (member_after_fall m m.kept, (Applied, (w, at.up, refl)), rw at.kept refl)
 
   -- a deed that is this call, and whose save fails
-  deed_falls : {shown : List ℕ} (w : Working) (m : Member) (d : Doing) (is_kept : Bool) (call : Known → NodeCall) (made : Response)
+  deed_falls : {shown : List ℕ} (w : Running) (m : Member) (d : Doing) (is_kept : Bool) (call : Known → NodeCall) (made : Response)
       (c : Option Change) → IsAt shown w m
       → ((plan : Option Bool) (left : Left) → Calls m plan call left → DoesDeed p me m plan d.deed left)
       → call w.known ≡ Makes made [] → made.saves ≡ c → SendsNothing d
@@ -141,20 +134,20 @@ module _ (p : Parts) (me : Me) where
   deed_falls w m d is_kept call made (Some c) at does is saves silent =
       let e = entry_by me.node (failed_as is_kept) d in
       let ends = call_falls me m w.progress (call w.known) made c is_kept e w.known.kept at.kept is saves silent in
-      (member_after_fall m (fallen_record is_kept w.known made (Some c)), (Fell, does _ _ (node_at_work w, at.up, ends)), refl)
+      (member_after_fall m (fallen_record is_kept w.known made (Some c)), (Fell, does _ _ (w, at.up, ends)), refl)
 
   -- a deed whose save fails
-  fail_ends : {shown : List ℕ} (w : Working) (m : Member) (d : Doing) (is_kept : Bool) (deed : Deed) → IsAt shown w m → d.deed ≡ deed
+  fail_ends : {shown : List ℕ} (w : Running) (m : Member) (d : Doing) (is_kept : Bool) (deed : Deed) → IsAt shown w m → d.deed ≡ deed
       → FailsDeed me w deed d
       → IsHistory p me m (end_after me.node is_kept d (unsaved w.known deed))
       (member_after_fall m (record_after is_kept w.known (unsaved w.known deed)))
   fail_ends w m d is_kept (Hear x) at is (bytes, spelled, given, silent) =
       deed_falls w m d is_kept (λ n. Makes (on_message n x.sender x.body) []) _ _ at (λ plan left calls. rw is calls) refl refl silent
-  fail_ends w m d is_kept Campaign at is (round, place, given, silent) =
-      deed_falls w m d is_kept call_of_campaign _ _ at (λ plan left calls. rw is calls) (campaign_makes w.known round place) refl silent
+  fail_ends w m d is_kept Campaign at is (made, given, silent) =
+      deed_falls w m d is_kept call_of_campaign _ _ at (λ plan left calls. rw is calls) (campaign_makes w.known made) refl silent
   fail_ends w m d is_kept deed at is fails = absurd fails
 
-  end_is_entry : {shown : List ℕ} (w : Working) (m : Member) (is_kept : Bool) (failed : Option Doing) → IsAt shown w m
+  end_is_entry : {shown : List ℕ} (w : Running) (m : Member) (is_kept : Bool) (failed : Option Doing) → IsAt shown w m
       → IfSome failed (λ d. FailsDeed me w d.deed d)
       → IsHistory p me m (run_end me.node w is_kept failed) (member_after_fall m (record_of w is_kept failed))
   end_is_entry w m is_kept None at fails = crash_ends w m at

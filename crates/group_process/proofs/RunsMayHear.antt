@@ -22,11 +22,12 @@ use Rattle.group_protocol.specs.Protocol.{on_message}
 use Rattle.group_protocol.specs.ProposerRows.{next_ballot, on_campaign}
 use Rattle.group_protocol.specs.States.{IsSize}
 use Rattle.group_wire.specs.Arrivals.{Spells}
-use Rattle.group_wire.specs.Doings.{DoesAll, Doing, Working}
+use Rattle.group_node.specs.NodeCalls.{Running}
+use Rattle.group_wire.specs.Doings.{DoesAll, Doing}
 use Rattle.group_wire.specs.Process.{IsProcess, Process, started}
 use Rattle.group_wire.specs.Traffic.{Letter, letters_of, letters_to}
 use Rattle.group_world.specs.declared.event.Outcome.TheVariants.{Kept}
-use Rattle.group_process.specs.Network.{AreDelivered, AreLetters, IsNetworkLog, MayHear, Received, entries_alone, received_by, received_in, received_in_run}
+use Rattle.group_process.specs.Network.{AreDelivered, AreLetters, IsNetworkLog, MayHear, GivenEntry, entries_alone, received_by, received_in, received_in_run}
 use Rattle.group_process.specs.Runs.{AreRuns, Attempt, GoesOn, IsGroupLog, NodeRun, Starts, entry_by}
 use Rattle.group_protocol.proofs.Elements.{entries_none, none_in, only_in}
 
@@ -35,16 +36,16 @@ module _ (p : Parts) (group : Group) where
   me = record { node = 1; group = group }
 
   -- the node after its start, its campaign, and its Prepare
-  abbrev up : Working
+  abbrev up : Running
   up = started p me empty_record
 
-  abbrev asking : Working
+  abbrev asking : Running
   asking = record up { known = (on_campaign up.known).node }
 
   abbrev prepare : Msg
   prepare = record { sender = 1; body = Prepare (next_ballot up.known) (front up.known) }
 
-  abbrev last : Working
+  abbrev last : Running
   last = record asking { known = (on_message asking.known prepare.sender prepare.body).node }
 
   abbrev campaigning : Doing
@@ -67,7 +68,7 @@ module _ (p : Parts) (group : Group) where
   abbrev runs : ℕ → List Attempt
   runs i = if 1 == i then Starts run ∷ [] else []
 
-  abbrev log : List Received
+  abbrev log : List GivenEntry
   log = received_in_run me run
 
   front_is : front up.known ≡ 0
@@ -83,7 +84,7 @@ module _ (p : Parts) (group : Group) where
     does : DoesAll me up process.doings last
     does = (
       asking,
-      (omega arith, (λ e. omega (arith, front_is, e)), refl, (refl, refl, refl)),
+      rw front_is (refl, (refl, refl, refl)),
       (last, (spelling group prepare, spells, refl, (refl, refl, refl)), refl),
     )
 
@@ -121,7 +122,7 @@ module _ (p : Parts) (group : Group) where
 
   -- the laws of networks and of lengths
   abbrev CarryLaw : Type 0
-  CarryLaw = (p : Parts) (group : Group) (runs : ℕ → List Attempt) (log : List Received) → IsGroup group → IsNetworkLog p group runs log
+  CarryLaw = (p : Parts) (group : Group) (runs : ℕ → List Attempt) (log : List GivenEntry) → IsGroup group → IsNetworkLog p group runs log
       → IsGroupLog p group runs (entries_alone log)
 
   abbrev ShortLaw : Type 0

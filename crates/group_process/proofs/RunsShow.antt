@@ -14,9 +14,10 @@ use Rattle.paxos_acceptor.specs.declared.me.Me.{Me}
 use Rattle.group_protocol.specs.States.{IsSize}
 use Rattle.group_world.specs.Group.{World, member_at, new_world, seat_of_member, up_of}
 use Rattle.group_world.specs.Headline.{ConsolesGrow}
-use Rattle.group_world.specs.Member.{Member, Running}
+use Rattle.group_node.specs.NodeCalls.{Running}
+use Rattle.group_world.specs.Member.{Member}
 use Rattle.group_world.specs.Processes.{AlwaysLaterOfProcesses, AlwaysOfProcesses, ConsolesShowReleased, Entry, HasMoment, IsHistory, IsLog, entries_of}
-use Rattle.group_process.specs.Runs.{AreFirstRuns, AreRuns, Attempt, ConsolesAreReleased, ConsolesShowRuns, GoesOn, IsAfterRuns, NodeRun, Starts, ends_by, entries_of_attempt, node_after, node_at_work, node_left, record_left, run_output}
+use Rattle.group_process.specs.Runs.{AreFirstRuns, AreRuns, Attempt, ConsolesAreReleased, ConsolesShowRuns, GoesOn, IsAfterRuns, NodeRun, Starts, ends_by, entries_of_attempt, node_after, node_left, record_left, run_output}
 use Rattle.group_process.proofs.GroupLogs.{first, first_at}
 use Rattle.group_process.proofs.RunFronts.{still_attempt}
 use Rattle.group_process.proofs.RunHistories.{runs_history}
@@ -31,7 +32,7 @@ record Reaches (p : Parts) (me : Me) (kept : Record) (runs : List Attempt) (run 
   some : AreFirstRuns cut runs
   rest : List Entry
   whole : flat_map (entries_of_attempt me) cut ++ rest ≡ flat_map (entries_of_attempt me) runs
-  up : (before : Option Running) → node_after before cut ≡ Some (node_at_work run.last)
+  up : (before : Option Running) → node_after before cut ≡ Some (run.last)
 
 reaches : (p : Parts) (me : Me) (runs : List Attempt) (kept : Record) (run : NodeRun) → AreRuns p me kept runs → Contains runs (Starts run)
     → Reaches p me kept runs run
@@ -123,9 +124,9 @@ module _ (laws : LogLaws) (p : Parts) (group : Group) (runs : ℕ → List Attem
       let (m_mid, mid_is) = node_there mid now i m moment.after.places at in
       let same : m_mid ≡ own = laws.node p me first _ own m_mid history
       (rw entries at (own_history p group front mid i m_mid moment.before mid_is)) in
-      let up : m_mid.node ≡ Some (node_at_work run.last) = ap (λ (x : Member). x.node) same ∙ stands.node_is ∙ r.up None in
+      let up : m_mid.node ≡ Some (run.last) = ap (λ (x : Member). x.node) same ∙ stands.node_is ∙ r.up None in
       let seat = ap (λ o. (seat_of_member o).up) mid_is ∙ ap (option_map up_of) up in
-      let shown = laws.shows p group front mid size session moment.before i (up_of (node_at_work run.last)) seat in
+      let shown = laws.shows p group front mid size session moment.before i (up_of (run.last)) seat in
       let grown = laws.grow p group front rest mid now size session moment.before moment.after i in
       let console : List ℕ = (seat_of_member (member_at mid i)).console in
       let count : ℕ = run.last.progress.released in

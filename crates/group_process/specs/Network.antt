@@ -17,19 +17,20 @@ use Rattle.group_world.specs.Processes.{Entry}
 use Rattle.group_process.specs.Runs.{AreRuns, Attempt, FailsToStart, IsGroupLog, NodeRun, Starts, ends_by, entries_of_attempt, entry_by, silent_entry}
 
 -- An entry with what a receive gave for it.
-pub record Received : Type 0 where
+pub record GivenEntry : Type 0 where
   pub entry : Entry
   pub given : List (Option (List ℕ))
 
--- An entry with what a receive gave, and one for which nothing was received.
-abbrev pub with_given : List (Option (List ℕ)) → Entry → Received
+-- This entry with what a receive gave for it.
+abbrev pub with_given : List (Option (List ℕ)) → Entry → GivenEntry
 with_given given e = record { entry = e; given = given }
 
-abbrev pub unreceived : Entry → Received
+-- This entry, for which nothing was received.
+abbrev pub unreceived : Entry → GivenEntry
 unreceived e = with_given [] e
 
 -- What a node does on its wire as an entry with what a receive gave.
-abbrev pub received_at : ℕ → Doing → Received
+abbrev pub received_at : ℕ → Doing → GivenEntry
 received_at node d = with_given d.given (entry_by node Kept d)
 
 -- What a receive gave for the deed at which a save failed, if one did.
@@ -37,24 +38,25 @@ abbrev pub given_for : Option Doing → List (Option (List ℕ))
 given_for None = []
 given_for (Some d) = d.given
 
--- A run, and a start, as entries of its node with what receives gave.
-abbrev pub received_in_run : Me → NodeRun → List Received
+-- A run as entries of its node with what receives gave.
+abbrev pub received_in_run : Me → NodeRun → List GivenEntry
 received_in_run me run =
     unreceived (silent_entry me.node (Start run.process.loaded))
     ∷ (map (received_at me.node) run.process.doings
     ++ map (with_given (given_for run.process.failed)) (ends_by me run run.stand))
 
-abbrev pub received_in : Me → Attempt → List Received
+-- A start as entries of its node with what receives gave.
+abbrev pub received_in : Me → Attempt → List GivenEntry
 received_in me (Starts run) = received_in_run me run
 received_in me (FailsToStart loaded is_kept) =
     map unreceived (entries_of_attempt me (FailsToStart loaded is_kept))
 
 -- The entries of one node, in order.
-abbrev pub received_by : ℕ → List Received → List Received
+abbrev pub received_by : ℕ → List GivenEntry → List GivenEntry
 received_by i log = filter (λ e. e.entry.node == i) log
 
 -- The entries without what was received.
-abbrev pub entries_alone : List Received → List Entry
+abbrev pub entries_alone : List GivenEntry → List Entry
 entries_alone log = map (λ e. e.entry) log
 
 -- What a receive gave, of which each datagram that spells a message is one of these letters, to
@@ -70,7 +72,7 @@ AreLetters group letters given =
 -- entry before it.
 -- Allows: a datagram that never comes, or comes again and again, late, or before an older one, or
 -- at another node.
-abbrev pub AreDelivered : Group → List Datagram → List Received → Type 0
+abbrev pub AreDelivered : Group → List Datagram → List GivenEntry → Type 0
 AreDelivered group sent [] = Unit {0}
 AreDelivered group sent (e ∷ log) =
     AreLetters group (letters_of group.size sent) e.given
@@ -80,7 +82,7 @@ AreDelivered group sent (e ∷ log) =
 -- a node of the group, and those of each node are its runs, over a store that keeps its record.
 -- What a receive gave was handed over before.
 pub record IsNetworkLog (p : Parts) (group : Group) (runs : ℕ → List Attempt)
-    (log : List Received) : Type 0 where
+    (log : List GivenEntry) : Type 0 where
   pub among : AllByRecursion (λ e. IsNode group.size e.entry.node) log
   pub entries : (i : ℕ) → received_by i log
       ≡ flat_map (received_in (record { node = i; group = group })) (runs i)
@@ -91,6 +93,6 @@ pub record IsNetworkLog (p : Parts) (group : Group) (runs : ℕ → List Attempt
 -- and that one of them hears a message in it.
 abbrev pub MayHear : Parts → Group → Type 0
 MayHear p group =
-    (runs : ℕ → List Attempt) × (log : List Received) × (e : Received) × (m : Msg)
+    (runs : ℕ → List Attempt) × (log : List GivenEntry) × (e : GivenEntry) × (m : Msg)
     × IsNetworkLog p group runs log × IsGroupLog p group runs (entries_alone log) × Contains log e
     × (e.entry.deed ≡ Hear m)

@@ -1,8 +1,8 @@
 -- Runs of the process of a node, as entries of a log of its group.
-use Rattle.std.specs.Prelude.{◌≡◌, ◌≢◌, ◌⊎◌, ℕ, Bool, if◌then◌else◌, List, [], ◌∷◌, ◌++◌, Contains, flat_map, map, take, Option, Some, None}
+use Rattle.std.specs.Prelude.{◌≡◌, ◌≢◌, ◌⊎◌, ℕ, Bool, if◌then◌else◌, List, [], ◌∷◌, ◌++◌, Contains, flat_map, map, Option, Some, None}
 use Rattle.std.specs.List.{AllByRecursion}
 use Rattle.pcode_file.specs.Parts.{Parts}
-use Rattle.pcode_machine.specs.Runs.{IsPrefix, out}
+use Rattle.pcode_machine.specs.Runs.{IsPrefix}
 use Rattle.paxos_msg.specs.declared.limits.TheConstants.{LAST_START}
 use Rattle.paxos_msg.specs.declared.message.Group.{Group}
 use Rattle.paxos_msg.specs.Batches.{Change, Record}
@@ -16,12 +16,14 @@ use Rattle.group_protocol.specs.ProposerRows.{on_campaign}
 use Rattle.group_protocol.specs.States.{IsSize}
 use Rattle.group_node.specs.States.{input}
 use Rattle.group_node.specs.World.{WorldState}
-use Rattle.group_wire.specs.Doings.{Doing, Working}
+use Rattle.group_node.specs.NodeCalls.{Running}
+use Rattle.group_wire.specs.Doings.{Doing}
 use Rattle.group_wire.specs.Process.{IsProcess, Process}
+use Rattle.group_wire.specs.Turns.{released_of}
 use Rattle.group_world.specs.declared.event.Outcome.{Outcome}
 use Rattle.group_world.specs.declared.event.Outcome.TheVariants.{FailedNew, FailedOld, Kept}
 use Rattle.group_world.specs.Group.{member_at, new_world, world_state}
-use Rattle.group_world.specs.Member.{Member, Running}
+use Rattle.group_world.specs.Member.{Member}
 use Rattle.group_node.specs.Deeds.{Campaign, Crash, Deed, Hear, Start}
 use Rattle.group_world.specs.Processes.{Entry, IsCarried, IsHistory, IsLog, after_log, entries_of}
 
@@ -52,24 +54,29 @@ abbrev pub fall_of : ℕ → Bool → Doing → Option Change → List Entry
 fall_of node is_kept d None = silent_entry node Crash ∷ []
 fall_of node is_kept d (Some c) = entry_by node (failed_as is_kept) d ∷ []
 
+-- The end of a process at a deed whose save failed, by the response of that deed. Where the deed
+-- has none, the process has ended without a save.
 abbrev pub end_after : ℕ → Bool → Doing → Option Response → List Entry
 end_after node is_kept d None = silent_entry node Crash ∷ []
 end_after node is_kept d (Some made) = fall_of node is_kept d made.saves
 
-abbrev pub run_end : ℕ → Working → Bool → Option Doing → List Entry
+-- The end of a process whose node was `last`: it was killed, or its save failed at a deed.
+abbrev pub run_end : ℕ → Running → Bool → Option Doing → List Entry
 run_end node last is_kept None = silent_entry node Crash ∷ []
 run_end node last is_kept (Some d) = end_after node is_kept d (unsaved last.known d.deed)
 
--- The record that such an end leaves.
+-- The record that a failed save leaves: the changed one or the old one.
 abbrev pub fallen_record : Bool → Known → Response → Option Change → Record
 fallen_record is_kept n made None = n.kept
 fallen_record is_kept n made (Some c) = if is_kept then made.node.kept else n.kept
 
+-- The record that the end at a deed leaves, by the response of that deed.
 abbrev pub record_after : Bool → Known → Option Response → Record
 record_after is_kept n None = n.kept
 record_after is_kept n (Some made) = fallen_record is_kept n made made.saves
 
-abbrev pub record_of : Working → Bool → Option Doing → Record
+-- The record that the end of a process leaves whose node was `last`.
+abbrev pub record_of : Running → Bool → Option Doing → Record
 record_of last is_kept None = last.known.kept
 record_of last is_kept (Some d) = record_after is_kept last.known (unsaved last.known d.deed)
 
@@ -84,7 +91,7 @@ pub data Stand : Type 0 where
 -- A run of a node's process, with its node after its deeds.
 pub record NodeRun : Type 0 where
   pub process : Process
-  pub last : Working
+  pub last : Running
   pub stand : Stand
 
 -- The entries of the end of a run, if it is over.
@@ -98,17 +105,14 @@ entries_of_run me run =
     silent_entry me.node (Start run.process.loaded)
     ∷ (map (entry_by me.node Kept) run.process.doings ++ ends_by me run run.stand)
 
--- A node at work as a node that is up.
-abbrev pub node_at_work : Working → Running
-node_at_work w = record { known = w.known; progress = w.progress }
-
--- The record that a run leaves, and the node, if it is up.
+-- The record that a run leaves.
 abbrev pub record_by : NodeRun → Stand → Record
 record_by run GoesOn = run.last.known.kept
 record_by run (IsOver is_kept) = record_of run.last is_kept run.process.failed
 
+-- The node that a run leaves, if it is up.
 abbrev pub node_by : NodeRun → Stand → Option Running
-node_by run GoesOn = Some (node_at_work run.last)
+node_by run GoesOn = Some (run.last)
 node_by run (IsOver is_kept) = None
 
 -- A start of a node's process: it runs; or the save of its start over this record fails, and its
@@ -129,12 +133,13 @@ entries_of_attempt me (FailsToStart loaded is_kept) =
       typed = [];
     }) ∷ []
 
--- The record that it leaves, and the node, if it is up.
+-- The record that a start leaves.
 abbrev pub record_left : Attempt → Record
 record_left (Starts run) = record_by run run.stand
 record_left (FailsToStart loaded is_kept) =
     if is_kept then changed loaded change.Start else loaded
 
+-- The node that a start leaves, if it is up.
 abbrev pub node_left : Attempt → Option Running
 node_left (Starts run) = node_by run run.stand
 node_left (FailsToStart loaded is_kept) = None
@@ -272,9 +277,7 @@ AlwaysLaterOfRuns P =
 
 -- What a run has released by its end: the first bytes of what its machine has written.
 abbrev pub run_output : NodeRun → List ℕ
-run_output run =
-    take run.last.progress.released
-    (out run.last.progress.program (input run.last.known) run.last.progress.steps)
+run_output run = released_of (input run.last.known) run.last.progress
 
 -- The console of each node begins with what each of its runs has released, whether that run goes on
 -- or is over.

@@ -14,7 +14,7 @@ ghost use Rattle.group_world.specs.Member.{Member};
 ghost use Rattle.group_world.specs.Headline.{ConsolesAgree, ConsolesGrow, ConsolesHoldOutput, HasNoGap, LearnedAgree, LearnedChosen, LearnedStays};
 ghost use Rattle.group_world.specs.Order.{KeysOnce, SerialsInOrder};
 ghost use Rattle.group_world.specs.Processes.{ConsolesShowReleased, Entry};
-ghost use Rattle.group_process.specs.Network.{IsNetworkLog, MayHear, Received, entries_alone};
+ghost use Rattle.group_process.specs.Network.{IsNetworkLog, MayHear, GivenEntry, entries_alone};
 ghost use Rattle.group_process.specs.Runs.{AlwaysLaterOfRuns, AlwaysOfNodes, AlwaysOfRuns, AreHistory, AreRuns, Attempt, ConsolesAreReleased, ConsolesShowRuns, HasRuns, IsAfterRuns, IsGroupLog, LeaveNodes};
 
 use group_world::laws::{fronts_of_logs, logs_have_one_end, processes_headline, processes_show};
@@ -64,7 +64,7 @@ pub fn fronts_of_runs()
 /// all that is heard was sent before: a log of runs with what receives gave, over such a network,
 /// is a log of runs.
 pub fn networks_carry()
-    ensures { (p : Parts) (group : Group) (runs : ℕ → List Attempt) (log : List Received)
+    ensures { (p : Parts) (group : Group) (runs : ℕ → List Attempt) (log : List GivenEntry)
         → IsGroup group → IsNetworkLog p group runs log
         → IsGroupLog p group runs (entries_alone log) }
 {

@@ -1,17 +1,18 @@
 -- A node's part in the protocol after a call, by its response.
-use Rattle.std.specs.Prelude.{◌≡◌, ◌≢◌, ◌↔◌, ◌⊎◌, ◌<◌, true, false, List, [], ◌∷◌, ◌++◌, length, None, Result, Err, OnOk, OnErr, IsErrOf}
+use Rattle.std.specs.Prelude.{◌≡◌, ◌≢◌, ◌↔◌, ◌⊎◌, ◌+◌, ◌<◌, true, false, List, [], ◌∷◌, ◌++◌, length, None, Result, Err, OnOk, OnErr, IsErrOf}
 use Rattle.paxos_acceptor.specs.Calls.{FailsOnlyWith, Mut}
 use Rattle.paxos_acceptor.specs.Stores.{StoreKind, FailsAsPlanned, CountsIf, IsOneOf}
 use Rattle.paxos_acceptor.specs.declared.fault.AcceptorFault.{AcceptorFault}
 use Rattle.paxos_acceptor.specs.declared.fault.AcceptorFault.TheVariants as acceptor
 use Rattle.group_protocol.specs.declared.fault.NodeFault.{NodeFault}
-use Rattle.group_protocol.specs.declared.fault.NodeFault.TheVariants.{Memory, Store, Stopped, OutboxFull, RoundsSpent, PlacesSpent}
+use Rattle.group_protocol.specs.declared.fault.NodeFault.TheVariants.{Busy, Memory, Store, Stopped, OutboxFull, RoundsSpent, PlacesSpent, SerialSpent}
 use Rattle.group_protocol.specs.declared.fault.NodeFault.TheVariants as fault
+use Rattle.group_protocol.specs.declared.limits.TheConstants.{MOST_WAITING}
 use Rattle.group_protocol.specs.Packets.{Datagram, datagrams_of, Queue}
-use Rattle.group_protocol.specs.Known.{Known, Response, front}
+use Rattle.group_protocol.specs.Known.{Known, Response, front, next_serial}
 use Rattle.group_protocol.specs.States.{Protocol}
 use Rattle.group_protocol.specs.ProposerRows.{last_round}
-use Rattle.paxos_msg.specs.declared.limits.TheConstants.{LAST_ROUND, PLACES}
+use Rattle.paxos_msg.specs.declared.limits.TheConstants.{LAST_ROUND, LAST_SERIAL, PLACES}
 
 -- The node's fault for an acceptor's fault.
 abbrev pub node_fault : AcceptorFault → NodeFault
@@ -96,6 +97,14 @@ MayLackMemory result = OnErr result (result ≡ Err Memory)
 -- The claim that a call fails only if memory runs out or its save fails.
 abbrev pub MayFailToSave : {T : Type 0} → Result T NodeFault → Type 0
 MayFailToSave result = FailsOnlyWith (Memory ∷ Store ∷ []) result
+
+-- The refusals of a byte that is typed at a node that works: 256 keys wait, or otherwise no serial
+-- is left.
+-- Forbids: a refusal where there is a key to spare.
+pub record IsTypingRefused {T : Type 0} (n : Known) (result : Result T NodeFault) : Type 0 where
+  pub busy : IsErrOf result Busy ↔ (length n.waiting ≡ MOST_WAITING)
+  pub spent : IsErrOf result SerialSpent
+      ↔ ((length n.waiting < MOST_WAITING) × (next_serial n ≡ LAST_SERIAL + 1))
 
 -- The refusals of a campaign that is taken: no round is left, or otherwise no place is.
 -- A campaign that saves has a round.

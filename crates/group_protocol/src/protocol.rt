@@ -1,13 +1,13 @@
 //! A node's part in the protocol: its parts, a typed key, and the calls with an outbox. Its start
 //! is in `start`.
-ghost use Rattle.std.specs.Prelude.{◌≡◌, ◌↔◌, ◌⊎◌, ◌+◌, ◌<◌, ◌≤◌, [], ◌∷◌, false, length, IfErr, IfOk, IsErrOf, IsSome, OnOk};
+ghost use Rattle.std.specs.Prelude.{◌≡◌, ◌⊎◌, ◌+◌, ◌<◌, ◌≤◌, [], ◌∷◌, false, length, IfErr, IfOk, IsErrOf, IsSome, OnOk};
 ghost use Rattle.paxos_msg.specs.declared.limits.TheConstants.{LAST_SERIAL};
 ghost use Rattle.group_protocol.specs.declared.limits.TheConstants.{MOST_WAITING, TICK_PACKETS};
 ghost use Rattle.paxos_acceptor.specs.Calls.{FailsOnlyWith};
 ghost use Rattle.group_protocol.specs.Ranges.{IsInRange};
 ghost use Rattle.group_protocol.specs.Known.{on_typed, new_key, next_serial};
 ghost use Rattle.paxos_msg.specs.Datagrams.{Fits};
-ghost use Rattle.group_protocol.specs.Calls.{Does, DoesAndSaves, IsCampaignRefused, IsLet, RefusesUnlessLet, Knows, MayFailToSave, RefusesIfStopped};
+ghost use Rattle.group_protocol.specs.Calls.{Does, DoesAndSaves, IsCampaignRefused, IsLet, RefusesUnlessLet, Knows, IsTypingRefused, MayFailToSave, RefusesIfStopped};
 ghost use Rattle.group_protocol.specs.Protocol.{answer_to, NeedsMemory, row};
 ghost use Rattle.group_protocol.specs.ProposerRows.{is_leading, on_campaign, own_ballot};
 ghost use Rattle.group_protocol.specs.Tick.{on_tick};
@@ -92,12 +92,7 @@ impl<S: Store> Protocol<S> {
             (Knows self.old self.new (on_typed self.old.known byte).node) }
         ensures err { IfErr result (λ _. self.new ≡ self.old) }
         ensures stopped { RefusesIfStopped self.old result }
-        ensures busy { IsErrOf result NodeFault.Busy
-            ↔ ((self.old.is_stopped ≡ false)
-            × (length self.old.known.waiting ≡ MOST_WAITING)) }
-        ensures spent { IsErrOf result NodeFault.SerialSpent
-            ↔ ((self.old.is_stopped ≡ false) × (length self.old.known.waiting < MOST_WAITING)
-            × (next_serial self.old.known ≡ LAST_SERIAL + 1)) }
+        ensures refuses { self.old.is_stopped ≡ false → IsTypingRefused self.old.known result }
         ensures others { FailsOnlyWith (NodeFault.Stopped ∷ NodeFault.Busy
             ∷ NodeFault.SerialSpent ∷ []) result }
     {

@@ -1,14 +1,13 @@
 -- The lines of a script.
-use Rattle.std.proofs.Common.{◌≡◌, ◌⊎◌, ℕ, ◌+◌, ◌-◌, ◌<◌, List, get_or, length, Option, Result, Ok, Err, IfOk, IfSome, OnErr, add-one, arith}
+use Rattle.std.proofs.Common.{◌≡◌, ℕ, ◌+◌, ◌-◌, ◌<◌, List, get_or, length, Option, Result, Ok, Err, add-one, arith}
 use Rattle.std.proofs.lemmas.Option.{slice_get-get_or}
 use Rattle.machine_run.specs.declared.run.RunIo.{RunIo}
 use Rattle.group_world.specs.declared.script.Line.{Line}
 use Rattle.group_world.specs.Group.{World}
 use Rattle.group_sim.specs.declared.simulation.ScriptHalt.{ScriptHalt}
-use Rattle.group_sim.specs.declared.simulation.ScriptHalt.TheVariants as halt
 use Rattle.group_sim.specs.declared.simulation.Stopped.{Stopped}
 use Rattle.group_sim.specs.Texts.{Held}
-use Rattle.group_sim.specs.Moments.{AreDone, IsHalted, IsNoGroup, LineIsDone, Moment, Says, halt_answer, first_moment, halt_of, Task, HaltsAt}
+use Rattle.group_sim.specs.Moments.{AreDone, IsHalted, LineIsDone, Moment, PerformsLines, Says, halt_answer, first_moment, Task, HaltsAt}
 
 -- the task after `n` others halts
 pub halts_at : (task : ℕ → Task) (first n : ℕ) (a mid : Moment) (h : ScriptHalt) (b : Moment) → AreDone task first n a mid
@@ -40,9 +39,5 @@ line_halts w lines n number default mid b h old e less p q =
 
 -- and this is its outcome: a refused event, a settle that is too long, or a failed write
 pub answers : {w : World} {lines : List Line} {old new : Held} (h : ScriptHalt) (number : ℕ) (r : Result (Option Stopped) RunIo)
-    → r ≡ halt_answer number h → IsHalted w lines number h old new
-    → IfOk r (λ answer. IfSome answer
-    (λ stopped. (IsNoGroup w.group.size stopped.line stopped.fault × (new ≡ old))
-    ⊎ IsHalted w lines stopped.line (halt_of stopped.fault) old new))
-    × OnErr r ((k : ℕ) × IsHalted w lines k halt.Unwritten old new)
+    → r ≡ halt_answer number h → IsHalted w lines number h old new → PerformsLines w lines old new r
 answers h number r e p = grind arith

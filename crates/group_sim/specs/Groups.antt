@@ -11,7 +11,7 @@ use Rattle.paxos_msg.specs.declared.value.Value.{Value}
 use Rattle.paxos_msg.specs.declared.value.Value.TheVariants.{Noop, Keys}
 use Rattle.group_protocol.specs.Known.{front}
 use Rattle.group_world.specs.Group.{member_at, World}
-use Rattle.group_world.specs.Member.{Running}
+use Rattle.group_node.specs.NodeCalls.{Running}
 use Rattle.group_sim.specs.Texts.{node_at}
 
 -- ---- parts of a line

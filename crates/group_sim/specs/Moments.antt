@@ -1,5 +1,6 @@
 -- What a script does to a group and to a writer, line by line.
-use Rattle.std.specs.Prelude.{◌≡◌, ◌⊎◌, ℕ, zero, suc, ◌+◌, ◌-◌, ◌<◌, ◌≤◌, Bool, true, false, ◌&&◌, ◌==◌, List, length, slice_get, Option, Some, None, is_some, Result, Ok, Err}
+use Rattle.std.specs.Prelude.{◌≡◌, ◌⊎◌, ℕ, zero, suc, ◌+◌, ◌-◌, ◌<◌, ◌≤◌, Bool, true, false, ◌&&◌, ◌==◌, List, length, slice_get, Option, Some, None, is_some, IfSome, IsNone, Result, Ok, Err, IfOk, OnErr}
+use Rattle.pcode_file.specs.Parts.{Parts}
 use Rattle.group_protocol.specs.declared.packet.To.{To}
 use Rattle.group_protocol.specs.declared.packet.To.TheVariants as whom
 use Rattle.group_node.specs.Output.{unreleased_of}
@@ -14,9 +15,10 @@ use Rattle.group_world.specs.declared.fault.WorldFault.{WorldFault}
 use Rattle.group_world.specs.declared.fault.WorldFault.TheVariants as fault
 use Rattle.group_world.specs.declared.script.Line.{Line}
 use Rattle.group_world.specs.declared.script.Line.TheVariants as line
+use Rattle.group_world.specs.declared.script.Script.{Script}
 use Rattle.group_world.specs.Event.{Goes, kept_event}
-use Rattle.group_world.specs.Group.{World}
-use Rattle.group_world.specs.Member.{Running}
+use Rattle.group_world.specs.Group.{World, new_world}
+use Rattle.group_node.specs.NodeCalls.{Running}
 use Rattle.group_world.specs.Refusals.{IsRefused}
 use Rattle.machine_run.specs.Streams.{Borrowed}
 use Rattle.machine_run.specs.declared.run.RunIo.{RunIo}
@@ -197,6 +199,11 @@ abbrev pub LineIsDone : ℕ → List Line → ℕ → Task
 LineIsDone size lines number a r b =
     (said : Line) × (slice_get lines (number - 2) ≡ Some said) × Says size number said a r b
 
+-- The group of a script, before its first event: all nodes are down.
+abbrev pub group_of : Parts → Script → World
+group_of program script =
+    new_world program (record { size = script.size; session = script.session })
+
 -- The moment before the first event of a script, with what is known of the writer.
 abbrev pub first_moment : World → Held → Moment
 first_moment w written = record { world = w; passed = 0; left = 0; written = written }
@@ -234,3 +241,16 @@ abbrev pub IsNoGroup : ℕ → ℕ → Option WorldFault → Type 0
 IsNoGroup size number f =
     (number ≡ 1) × (((f ≡ Some fault.Size) × ¬ IsSize size)
     ⊎ ((f ≡ Some fault.Memory) × IsSize size))
+
+-- What the lines of a script do on its group, and what is known of the writer before and after.
+-- `Ok(None)` says that each was done, in order; a line and a cause, that this line halted for just
+-- that, after all before it, or that there was no group and nothing was written; `Write`, that a
+-- line halted since a write failed.
+-- Forbids: a halt whose cause is made up, and a line that is done after it.
+pub record PerformsLines (w : World) (lines : List Line) (old new : Held)
+    (result : Result (Option Stopped) RunIo) : Type 0 where
+  pub done : IfOk result (λ answer. IsNone answer → IsScriptDone w lines old new)
+  pub stopped : IfOk result (λ answer. IfSome answer
+      (λ stopped. (IsNoGroup w.group.size stopped.line stopped.fault × (new ≡ old))
+      ⊎ IsHalted w lines stopped.line (halt_of stopped.fault) old new))
+  pub unwritten : OnErr result ((number : ℕ) × IsHalted w lines number halt.Unwritten old new)

@@ -8,7 +8,7 @@ use Rattle.group_protocol.specs.Fault.{code_of}
 use Rattle.group_world.specs.declared.event.Done.{Done}
 use Rattle.group_world.specs.declared.event.Done.TheVariants.{Applied, Refused, Fell}
 use Rattle.group_world.specs.Group.{member_at, World}
-use Rattle.group_world.specs.Member.{Running}
+use Rattle.group_node.specs.NodeCalls.{Running}
 
 -- ---- what is written
 

@@ -1,10 +1,9 @@
 //! The performance of a script on a group.
-ghost use Rattle.std.specs.Prelude.{◌≡◌, ◌↔◌, ◌⊎◌, ℕ, ◌+◌, ◌≤◌, is_some, length, IfErr, IfOk, IfSome, IsNone, OnErr};
+ghost use Rattle.std.specs.Prelude.{◌≡◌, ◌↔◌, ◌+◌, ◌≤◌, is_some, length, IfErr, IfOk, IfSome};
 ghost use Rattle.group_protocol.specs.Fault.{code_of};
 ghost use Rattle.group_protocol.specs.States.{IsSize};
 ghost use Rattle.group_world.specs.Event.{kept_event};
-ghost use Rattle.group_world.specs.Group.{new_world};
-ghost use Rattle.group_sim.specs.Moments.{DeliversOne, DeliversAll, HappensAt, InTurn, IsScriptDone, IsHalted, IsNoGroup, PerformsTask, Plays, ReleasesAll, Says, Settles, Shows, halt_answer, halt_of, is_meant, moment, waiting};
+ghost use Rattle.group_sim.specs.Moments.{DeliversOne, DeliversAll, HappensAt, InTurn, PerformsLines, PerformsTask, Plays, ReleasesAll, Says, Settles, Shows, group_of, halt_answer, is_meant, moment, waiting};
 ghost use Rattle.group_sim.specs.Texts.{node_at, refusal_text, event_text, held, PutsText};
 
 use crate::showing::write_group;
@@ -335,24 +334,9 @@ pub fn sim<W: ByteWriter>(
         (λ answer. IfSome answer
         (λ stopped. (1 ≤ stopped.line) × (stopped.line ≤ length script.now.lines.items + 1))) }
     ensures write { IfErr result (λ fault. fault ≡ RunIo.Write) }
-    ensures done { IfOk result
-        (λ answer. IsNone answer
-        → IsScriptDone (new_world program.now
-        (record { size = script.now.size; session = script.now.session })) script.now.lines.items
-        (held W.contents W.write_faults writer.old) (held W.contents W.write_faults writer.new)) }
-    ensures stopped { IfOk result
-        (λ answer. IfSome answer
-        (λ stopped. (IsNoGroup script.now.size stopped.line stopped.fault
-        × (held W.contents W.write_faults writer.new ≡ held W.contents W.write_faults writer.old))
-        ⊎ IsHalted (new_world program.now
-        (record { size = script.now.size; session = script.now.session })) script.now.lines.items
-        stopped.line (halt_of stopped.fault)
-        (held W.contents W.write_faults writer.old) (held W.contents W.write_faults writer.new))) }
-    ensures unwritten { OnErr result
-        ((number : ℕ) × IsHalted
-        (new_world program.now (record { size = script.now.size; session = script.now.session }))
-        script.now.lines.items number ScriptHalt.Unwritten
-        (held W.contents W.write_faults writer.old) (held W.contents W.write_faults writer.new)) }
+    ensures performs { PerformsLines (group_of program.now script.now) script.now.lines.items
+        (held W.contents W.write_faults writer.old) (held W.contents W.write_faults writer.new)
+        result }
     ensures size { result ≡ Ok (Some (record { line = 1; fault = Some WorldFault.Size }))
         ↔ ¬ IsSize script.now.size }
 {

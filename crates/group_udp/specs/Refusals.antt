@@ -18,12 +18,12 @@ no_memory = Machine (Run Memory)
 
 -- What a node may refuse in a cycle, in which no save has failed before: a save fails, or its
 -- serials are spent.
-abbrev pub IsRoundRefusal : GroupFault → Type 0
-IsRoundRefusal e = (e ≡ group.Node Store) ⊎ (e ≡ group.Node SerialSpent)
+abbrev pub IsCycleRefusal : GroupFault → Type 0
+IsCycleRefusal e = (e ≡ group.Node Store) ⊎ (e ≡ group.Node SerialSpent)
 
 -- What a cycle whose output is written may refuse: also a failed write.
-abbrev pub IsWrittenRoundRefusal : GroupFault → Type 0
-IsWrittenRoundRefusal e = IsRoundRefusal e ⊎ (e ≡ write_failed)
+abbrev pub IsWrittenCycleRefusal : GroupFault → Type 0
+IsWrittenCycleRefusal e = IsCycleRefusal e ⊎ (e ≡ write_failed)
 
 -- What a campaign of such a node may refuse: a save fails, its rounds or its places are spent, or
 -- memory ran out.
@@ -37,7 +37,7 @@ IsStartRefusal e = (e ≡ group.Node fault.BadRecord) ⊎ (e ≡ group.Node faul
 
 -- What a node may refuse from its start on.
 abbrev pub IsRunRefusal : GroupFault → Type 0
-IsRunRefusal e = IsRoundRefusal e ⊎ (e ≡ write_failed) ⊎ IsCampaignRefusal e ⊎ IsStartRefusal e
+IsRunRefusal e = IsCycleRefusal e ⊎ (e ≡ write_failed) ⊎ IsCampaignRefusal e ⊎ IsStartRefusal e
 
 -- The refusal for a socket that is missing.
 abbrev pub IsSocketRefusal : GroupFault → Type 0

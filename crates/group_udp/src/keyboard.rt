@@ -24,7 +24,7 @@ pub trait Keyboard {
 
     /// Takes a request to campaign, if one is there, also where bytes came before it. Returns true
     /// if one was.
-    fn is_asked(&mut self) -> bool
+    fn take_request(&mut self) -> bool
         ensures asked { remaining self.old
             ≡ with_gift (if result then Campaign ∷ [] else []) (remaining self.new) };
 

@@ -21,8 +21,8 @@ pub trait RestingWire: Wire {
     fn begin_rest(&mut self, front: u32)
         ensures passed { Self.traffic self.new ≡ Self.traffic self.old };
 
-    /// Notes that a place has become known. The rest is over as soon as one may be at a node whose
-    /// typed keys are under way.
+    /// Notes that a place has become known. While typed keys of the node are under way, the rest
+    /// then ends as soon as it may.
     fn note_learned(&mut self)
         ensures passed { Self.traffic self.new ≡ Self.traffic self.old };
 
@@ -40,7 +40,7 @@ pub trait RestingWire: Wire {
     fn sends(&self) -> Sends;
 
     /// Returns true if the trace of the node cannot be written any more, the first time after that.
-    fn has_lost_trace(&mut self) -> bool
+    fn take_trace_loss(&mut self) -> bool
         ensures passed { Self.traffic self.new ≡ Self.traffic self.old };
 
     /// Sets these counts to 0.

@@ -93,7 +93,7 @@ impl<H: Clock> Keyboard for TypedDatagrams<'_, H> {
         !self.bytes.is_empty()
     }
 
-    fn is_asked(&mut self) -> bool {
+    fn take_request(&mut self) -> bool {
         if !self.has_request {
             return false;
         }

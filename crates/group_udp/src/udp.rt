@@ -355,7 +355,7 @@ impl<H: Clock + Files + AllocGlobal> RestingWire for UdpWire<'_, H> {
         self.sends
     }
 
-    fn has_lost_trace(&mut self) -> bool {
+    fn take_trace_loss(&mut self) -> bool {
         match &mut self.trace {
             Some(trace) => trace.is_first_loss(),
             None => false,

@@ -1,5 +1,6 @@
 -- A turn, a receive and a campaign as deeds.
 use Rattle.std.proofs.Common.{◌≡◌, ◌≢◌, ◌+◌, ◌<◌, ◌⊎◌, ℕ, Bool, true, false, List, [], ◌∷◌, ◌++◌, Option, Some, None, IfNone, OnSome, option_map, slice_get, Result, Ok, Err, inl, inr, refl, sym, ap, subst, ◌∙◌, append-nil, append_assoc, arith}
+use Rattle.std.proofs.lemmas.Bool.Decides.{nat_tests}
 use Rattle.std.proofs.lemmas.Grind.{flat_map-append}
 use Rattle.std.proofs.lemmas.List.Elements.{All-head, All-tail}
 use Rattle.std.specs.List.{All}
@@ -19,7 +20,9 @@ use Rattle.group_wire.specs.declared.answers.Turned.{Turned}
 use Rattle.group_wire.specs.declared.limits.TheConstants.{TURN_STEPS}
 use Rattle.group_wire.specs.Arrivals.{Arrival, Ending, EndsAt, Fate, GoesOn, Hears, IsFateOf, NoneCame, Refuses, heard_of}
 use Rattle.group_node.specs.Deeds.{Campaign, Deed, Hear, Release, Run}
-use Rattle.group_wire.specs.Doings.{ActsBy, DoesAll, DoesOnWire, Doing, Fails, HasActed, Working, after_fate, after_heard, deed_of, hearing, last_receiving, prompt_in, prompts_of, receives, sent_of, ticked_if, ticking, transfers_of, working}
+use Rattle.group_node.specs.NodeCalls as call
+use Rattle.group_node.specs.NodeCalls.{Running, call_of_campaign, running}
+use Rattle.group_wire.specs.Doings.{ActsBy, DoesAll, DoesOnWire, Doing, Fails, HasActed, after_fate, after_heard, deed_of, hearing, last_receiving, prompt_in, prompts_of, receives, sent_of, ticked_if, ticking, transfers_of}
 use Rattle.group_wire.specs.Traffic.{Traffic, grown}
 use Rattle.group_wire.specs.Campaigns.{HasCampaigned}
 use Rattle.group_wire.specs.Turns.{HasHeard, HasTurned, HearsSome, TellsOfOne}
@@ -33,7 +36,7 @@ prompts_then : (ds es : List Doing) {p q : List Deed} → prompts_of ds ≡ p �
 prompts_then ds es first second = flat_map-append (λ (d : Doing). prompt_in d.deed) ds es ∙ rw (first, second) refl
 
 -- some deeds, and then others
-does_then : (me : Me) (w : Working) (ds es : List Doing) (v u : Working) → DoesAll me w ds v → DoesAll me v es u → DoesAll me w
+does_then : (me : Me) (w : Running) (ds es : List Doing) (v u : Running) → DoesAll me w ds v → DoesAll me v es u → DoesAll me w
     (ds ++ es) u
 does_then me w [] es v u first second = subst (λ x. DoesAll me x es u) first second
 does_then me w (d ∷ ds) es v u (mid, does, rest) second = (mid, does, does_then me mid ds es v u rest second)
@@ -45,8 +48,8 @@ acts_then {S} {old} {mid} {new} {from} {via} {to} (ds, first, ps) (es, second, q
   ds ++ es,
   record {
     me = second.me ∙ first.me;
-    does = does_then _ (working old) ds es (working mid) (working new) first.does
-        (subst (λ (x : Me). DoesAll x (working mid) es (working new)) first.me second.does);
+    does = does_then _ (running old) ds es (running mid) (running new) first.does
+        (subst (λ (x : Me). DoesAll x (running mid) es (running new)) first.me second.does);
     traffic = grown_twice from via to _ _ _ first.traffic (rw first.me at second.traffic) (passed_then old.protocol.known.me ds es);
   },
   prompts_then ds es ps qs,
@@ -56,19 +59,19 @@ acts_then {S} {old} {mid} {new} {from} {via} {to} (ds, first, ps) (es, second, q
 
 module _ (me : Me) where
   -- one datagram, by its fate
-  fate_does : (w : Working) (bytes : List ℕ) (fate : Fate) → IsFateOf me.group bytes fate
+  fate_does : (w : Running) (bytes : List ℕ) (fate : Fate) → IsFateOf me.group bytes fate
       → DoesOnWire me w (deed_of fate) (record { deed = deed_of fate; given = Some bytes ∷ []; sent = sent_of me w.known fate; typed = [] })
       (record w { known = after_fate w.known fate })
   fate_does w bytes (Hears m) spelled = (bytes, spelled, refl, (refl, refl, refl))
   fate_does w bytes fate unheard = (refl, (refl, refl))
 
   -- several
-  receives_does : (w : Working) (came : List Arrival) → All (λ a. IsFateOf me.group a.bytes a.fate) came
+  receives_does : (w : Running) (came : List Arrival) → All (λ a. IsFateOf me.group a.bytes a.fate) came
       → DoesAll me w (receives me w.known came) (record w { known = after_heard w.known (heard_of came) })
   receives_does w [] fates = refl
   receives_does w (a ∷ came) fates =
       let P : Arrival → Type 0 = λ a. IsFateOf me.group a.bytes a.fate in
-      let mid : Working = record w { known = after_fate w.known a.fate } in
+      let mid : Running = record w { known = after_fate w.known a.fate } in
       let rest = receives_does mid came (All-tail P a came fates) in
       (mid, fate_does w a.bytes a.fate (All-head P a came fates), rw (after_came w.known a.fate (heard_of came)) rest)
 
@@ -86,17 +89,17 @@ module _ (me : Me) where
   tick_unprompted ticks n = grind arith
 
   -- a tick, or none
-  tick_does : (w : Working) (ticks : Bool) → DoesAll me w (ticking me ticks w.known) (record w { known = (ticked_if ticks w.known).node })
+  tick_does : (w : Running) (ticks : Bool) → DoesAll me w (ticking me ticks w.known) (record w { known = (ticked_if ticks w.known).node })
   tick_does w true = (record w { known = (ticked_if true w.known).node }, (refl, (refl, refl, refl)), refl)
   tick_does w false = refl
 
   -- the last receive, where no message was refused
-  last_does : (w : Working) (ending : Ending) → (ending ≡ NoneCame) ⊎ (ending ≡ GoesOn) → DoesAll me w (last_receiving ending) w
+  last_does : (w : Running) (ending : Ending) → (ending ≡ NoneCame) ⊎ (ending ≡ GoesOn) → DoesAll me w (last_receiving ending) w
   last_does w ending (inl none) = rw none (w, (refl, (refl, refl)), refl)
   last_does w ending (inr goes) = rw goes refl
 
   -- all receives, where no message was refused
-  hearing_does : (w : Working) (came : List Arrival) (ending : Ending) → All (λ a. IsFateOf me.group a.bytes a.fate) came
+  hearing_does : (w : Running) (came : List Arrival) (ending : Ending) → All (λ a. IsFateOf me.group a.bytes a.fate) came
       → (ending ≡ NoneCame) ⊎ (ending ≡ GoesOn)
       → DoesAll me w (hearing me w.known came ending) (record w { known = after_heard w.known (heard_of came) })
   hearing_does w came ending fates ended = does_then me w _ _ _ _ (receives_does w came fates) (last_does _ ending ended)
@@ -122,13 +125,13 @@ turn_acts : {S : Type 0} {kind : StoreKind S} {old new : NodeState S} {from to :
     → HasActed old new from to (Run TURN_STEPS ∷ [])
 turn_acts {S} {kind} {old} {new} {from} {to} done h replay =
     let me : Me = old.protocol.known.me in
-    let w : Working = working old in
-    let after : Working = record w { known = after_heard w.known (heard_of h.came) } in
-    let ticked : Working = record w { known = (ticked_if done.ticked after.known).node } in
+    let w : Running = running old in
+    let after : Running = record w { known = after_heard w.known (heard_of h.came) } in
+    let ticked : Running = record w { known = (ticked_if done.ticked after.known).node } in
     let ended : (h.ending ≡ NoneCame) ⊎ (h.ending ≡ GoesOn) = elim h.hears.ended [ inl none ↦ inl none | inr goes ↦ inr goes.0 ] in
     let heard = hearing_does me w h.came h.ending h.plays.arrivals.fates ended in
     let all = does_then me w _ _ after ticked heard (tick_does me after done.ticked) in
-    let runs : DoesOnWire me ticked (Run TURN_STEPS) turn_run (working new) =
+    let runs : DoesOnWire me ticked (Run TURN_STEPS) turn_run (running new) =
     (done.ran, h.plays.known, rw h.plays.known at h.runs, rw h.plays.known at replay, refl, (refl, refl)) in
     let hears : List Doing = hearing me w.known h.came h.ending in
     let ticks : List Doing = ticking me done.ticked after.known in
@@ -138,7 +141,7 @@ turn_acts {S} {kind} {old} {new} {from} {to} done h replay =
       ds ++ turn_run ∷ [],
       record {
         me = h.me;
-        does = does_then me w ds (turn_run ∷ []) ticked (working new) all (working new, runs, refl);
+        does = does_then me w ds (turn_run ∷ []) ticked (running new) all (running new, runs, refl);
         traffic = grown_twice from to to (transfers_of me ds) [] _ h.plays.traffic (nothing_passed to) (passed_then me ds _);
       },
       prompts_then ds (turn_run ∷ []) unprompted refl,
@@ -151,7 +154,7 @@ hears_fails P came GoesOn ends h = absurd ends
 hears_fails P came NoneCame ends h = absurd ends
 hears_fails P came (Refuses bytes m) {old} {new} ends h =
     let me : Me = old.protocol.known.me in
-    let w : Working = working old in (
+    let w : Running = running old in (
       receives me w.known came,
       refused_at bytes m,
       record {
@@ -185,7 +188,7 @@ hears_acts : {S : Type 0} {came : List Arrival} {ending : Ending} {old new : Nod
     → HearsSome came ending old new from to → (ending ≡ NoneCame) ⊎ (ending ≡ GoesOn) → HasActed old new from to []
 hears_acts {came = came} {ending} {old} h ended =
     let me : Me = old.protocol.known.me in
-    let w : Working = working old in (
+    let w : Running = running old in (
       hearing me w.known came ending,
       record {
         me = h.me;
@@ -215,6 +218,10 @@ pub nothing_done : {S : Type 0} {old new : NodeState S} {from to : Option Traffi
     → new.progress ≡ old.progress → to ≡ from → HasActed old new from to []
 nothing_done {old = old} {new} {from} known progress traffic = grind (arith, nothing_passed from)
 
+-- where a round and a place are left a campaign begins
+campaign_made : (n : Known) → last_round n < LAST_ROUND → front n ≢ PLACES → call_of_campaign n ≡ call.Makes (on_campaign n) []
+campaign_made n spare place = grind (arith, nat_tests)
+
 pub campaign_acts_by : {S : Type 0} {kind : StoreKind S} {old new : NodeState S} {from to : Option Traffic}
     (result : Result (Unit {0}) NodeFault) → HasCampaigned kind old new from to result
     → ActsBy old new from to (Campaign ∷ []) (Campaign ∷ []) result
@@ -224,7 +231,11 @@ campaign_acts_by {old = old} {new} (Ok x) h =
       record { deed = Campaign; given = []; sent = datagrams_of n.me (on_campaign n).sends; typed = [] } ∷ [],
       record {
         me = ap (λ (k : Known). k.me) h.ok;
-        does = (working new, (h.spare, place, refl, (λ t. record { known = h.ok t; progress = h.progress t }, refl, refl)), refl);
+        does = (
+          running new,
+          (refl, rw (campaign_made n h.spare place) (λ t. record { known = h.ok t; progress = h.progress t }, refl, refl)),
+          refl,
+        );
         traffic = rw append-nil h.sends;
       },
       refl,
@@ -237,7 +248,7 @@ campaign_acts_by {old = old} {from = from} (Err Store) h =
       record {
         me = ap (λ (k : Known). k.me) h.err;
         does = λ t. record { known = h.err t; progress = h.progress t };
-        fails = rw h.err (spare, place, refl, (refl, refl));
+        fails = rw (h.err, campaign_made old.protocol.known spare place) (tt, refl, (refl, refl));
         traffic = h.unsent ∙ nothing_passed from;
       },
       refl,
@@ -259,7 +270,7 @@ release_acts old new from (Some byte) result waits is some none protocol =
       record { deed = Release; given = []; sent = []; typed = [] } ∷ [],
       record {
         me = cc;
-        does = (working new, (byte, waits, cc, refl, (refl, refl)), refl);
+        does = (running new, (byte, waits, cc, refl, (refl, refl)), refl);
         traffic = nothing_passed from;
       },
       refl,
@@ -275,8 +286,8 @@ fails_then {S} {old} {mid} {new} {from} {via} {to} (ds, first, ps) (es, last, se
   last,
   record {
     me = second.me ∙ first.me;
-    does = does_then _ (working old) ds es (working mid) (working new) first.does
-        (subst (λ (x : Me). DoesAll x (working mid) es (working new)) first.me second.does);
+    does = does_then _ (running old) ds es (running mid) (running new) first.does
+        (subst (λ (x : Me). DoesAll x (running mid) es (running new)) first.me second.does);
     fails = rw first.me at second.fails;
     traffic = rw append_assoc
         (grown_twice from via to _ _ _ first.traffic (rw first.me at second.traffic) (passed_then old.protocol.known.me ds _));

@@ -1,11 +1,13 @@
 -- Bytes that are typed, one after the other, as deeds.
 use Rattle.std.proofs.Common.{◌≡◌, ◌∙◌, ℕ, ◌<◌, Bool, true, if◌then◌else◌, List, [], ◌∷◌, ◌++◌, map, Result, refl, sym, ap, subst, append-nil, append_assoc, arith}
+use Rattle.std.proofs.lemmas.Bool.Decides.{nat_tests}
 use Rattle.paxos_acceptor.specs.declared.me.Me.{Me}
 use Rattle.group_protocol.specs.declared.fault.NodeFault.{NodeFault}
-use Rattle.group_protocol.specs.Known.{Known, on_typed}
+use Rattle.group_protocol.specs.Known.{Known, new_key, on_typed}
 use Rattle.group_node.specs.States.{NodeState}
 use Rattle.group_node.specs.Deeds.{Press}
-use Rattle.group_wire.specs.Doings.{ActsTyping, DoesAll, Working, pressing, prompts_of, transfers_of, working}
+use Rattle.group_node.specs.NodeCalls.{Makes, Running, call_of_press, running}
+use Rattle.group_wire.specs.Doings.{ActsTyping, DoesAll, pressing, prompts_of, transfers_of}
 use Rattle.group_wire.specs.Presses.{AreTyped, HasPressed, HasKeyRoom, after_pressed}
 use Rattle.group_wire.specs.Traffic.{grown}
 use Rattle.group_wire.proofs.Acting.{nothing_passed}
@@ -38,13 +40,20 @@ pressing_passes : (me : Me) (n : Known) (bytes : List ℕ) → transfers_of me (
 pressing_passes me n [] = refl
 pressing_passes me n (byte ∷ bytes) = pressing_passes me (on_typed n byte).node bytes
 
+-- where there is room for its key a byte is typed
+press_made : (n : Known) (byte : ℕ) → HasKeyRoom n → call_of_press n byte ≡ Makes (on_typed n byte) (new_key n byte ∷ [])
+press_made n byte room = grind (arith, nat_tests)
+
 -- the deeds
-pressing_does : (me : Me) (w : Working) (bytes : List ℕ) → AreTyped w.known bytes
+pressing_does : (me : Me) (w : Running) (bytes : List ℕ) → AreTyped w.known bytes
     → DoesAll me w (pressing w.known bytes) (record w { known = after_pressed w.known bytes })
 pressing_does me w [] all = ap (λ (n : Known). record w { known = n }) (pressed_none w.known)
 pressing_does me w (byte ∷ bytes) (low, room, rest) =
-    let mid : Working = record w { known = (on_typed w.known byte).node } in
-    (mid, (low, room.0, room.1, refl, (refl, refl, refl)), rw (← pressed_on w.known byte bytes) (pressing_does me mid bytes rest))
+    let mid : Running = record w { known = (on_typed w.known byte).node } in (
+      mid,
+      (low, refl, rw (press_made w.known byte room) (refl, refl, refl)),
+      rw (← pressed_on w.known byte bytes) (pressing_does me mid bytes rest),
+    )
 
 -- each byte is a prompt
 pressing_prompts : (n : Known) (bytes : List ℕ) → prompts_of (pressing n bytes) ≡ map Press bytes
@@ -56,7 +65,7 @@ pub typing_acts : {S : Type 0} {old new : NodeState S} {before after : List ℕ}
     → HasPressed old new before after result → ActsTyping old new before after
 typing_acts {old = old} {new} h =
     let me : Me = old.protocol.known.me in
-    let w : Working = working old in (
+    let w : Running = running old in (
       h.typed,
       h.bytes,
       λ passed_before. (

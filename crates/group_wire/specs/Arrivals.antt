@@ -1,5 +1,5 @@
 -- The datagrams that came to a node, and what became of each.
-use Rattle.std.specs.Prelude.{◌≡◌, ◌<◌, ◌≤◌, ℕ, ⊤, List, [], ◌∷◌, ◌++◌, length, map, sum_by, None, Option, Some}
+use Rattle.std.specs.Prelude.{◌≡◌, ◌<◌, ◌≤◌, ℕ, List, [], ◌∷◌, ◌++◌, length, map, sum_by, None, Option, Some}
 use Rattle.std.specs.List.{filter_map}
 use Rattle.paxos_msg.specs.declared.limits.TheConstants.{LONGEST_DATAGRAM}
 use Rattle.paxos_msg.specs.declared.message.Group.{Group}
@@ -82,6 +82,6 @@ EndsAt (Refuses bytes m) P = P m
 
 -- An end of hearing whose refused message, if there is one, is spelled by its datagram.
 abbrev pub IsSpelledEnding : Group → Ending → Type 0
-IsSpelledEnding g GoesOn = ⊤
-IsSpelledEnding g NoneCame = ⊤
+IsSpelledEnding g GoesOn = Unit {0}
+IsSpelledEnding g NoneCame = Unit {0}
 IsSpelledEnding g (Refuses bytes m) = Spells g bytes m

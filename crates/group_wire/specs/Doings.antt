@@ -1,19 +1,18 @@
 -- The deeds of a node on its wire, each with what passed over the wire in it, and in which order.
-use Rattle.std.specs.Prelude.{◌≡◌, ◌≢◌, ℕ, ◌+◌, ◌<◌, Bool, if◌then◌else◌, List, [], ◌∷◌, ◌++◌, flat_map, length, map, Option, Some, None, Result, Ok, Err, slice_get}
-use Rattle.paxos_msg.specs.declared.limits.TheConstants.{LAST_ROUND, LAST_SERIAL, PLACES}
+use Rattle.std.specs.Prelude.{◌≡◌, ℕ, ◌+◌, ◌<◌, Bool, if◌then◌else◌, List, [], ◌∷◌, ◌++◌, flat_map, map, Option, Some, None, Result, Ok, Err, slice_get}
 use Rattle.paxos_msg.specs.declared.value.Value.{Value}
 use Rattle.paxos_msg.specs.Batches.{Msg}
 use Rattle.paxos_acceptor.specs.declared.me.Me.{Me}
 use Rattle.group_protocol.specs.declared.fault.NodeFault.{NodeFault}
 use Rattle.group_protocol.specs.declared.fault.NodeFault.TheVariants as fault
-use Rattle.group_protocol.specs.declared.limits.TheConstants.{MOST_WAITING}
 use Rattle.group_node.specs.declared.player.Ran.{Ran}
-use Rattle.group_protocol.specs.Known.{Known, Response, front, new_key, next_serial, on_typed, quiet}
+use Rattle.group_protocol.specs.Known.{Known, Response, new_key, on_typed, quiet}
 use Rattle.group_node.specs.Deeds.{Deed, Idle, Start, Hear, Press, Campaign, Tick, Run, Release, Crash}
-use Rattle.group_node.specs.Output.{IsReplay, Progress, RunsOn, unreleased_of}
+use Rattle.group_node.specs.NodeCalls as call
+use Rattle.group_node.specs.NodeCalls.{Makes, NodeCall, Running, call_of_campaign, call_of_press, running}
+use Rattle.group_node.specs.Output.{IsReplay, RunsOn, unreleased_of}
 use Rattle.group_protocol.specs.Packets.{Datagram, datagrams_of}
 use Rattle.group_protocol.specs.Protocol.{on_message}
-use Rattle.group_protocol.specs.ProposerRows.{last_round, on_campaign}
 use Rattle.group_node.specs.States.{NodeState, input}
 use Rattle.group_protocol.specs.Tick.{on_tick}
 use Rattle.group_wire.specs.Arrivals.{Arrival, Ending, Fate, GoesOn, Hears, Loses, NoMessage, NoneCame, Refuses, Spells, TooLong}
@@ -116,18 +115,10 @@ pressing n (byte ∷ bytes) =
 
 -- ---- what deeds do
 
--- A node at work: what it knows, and the progress of its machine.
-pub record Working : Type 0 where
-  pub known : Known
-  pub progress : Progress
-
--- A node as a node at work.
-abbrev pub working : {S : Type 0} → NodeState S → Working
-working n = record { known = n.protocol.known; progress = n.progress }
-
--- The deed is a response of the node, after which it is `v`, and at which these keys were typed.
-abbrev pub RespondsOnWire : Me → Working → Response → List Value → Doing → Working → Type 0
-RespondsOnWire me w done keys d v =
+-- The deed is a call that a node makes, after which it is `v`.
+abbrev pub MakesOnWire : Me → Running → NodeCall → Doing → Running → Type 0
+MakesOnWire me w (call.Refuses f) d v = ⊥
+MakesOnWire me w (Makes done keys) d v =
     (v ≡ record w { known = done.node }) × (d.sent ≡ datagrams_of me done.sends) × (d.typed ≡ keys)
 
 -- A deed at which nothing is sent or typed.
@@ -137,20 +128,18 @@ SendsNothing d = (d.sent ≡ []) × (d.typed ≡ [])
 -- A deed of the node `w` leaves `v`. A start is not one: there is no node before it. A node that
 -- crashes leaves none.
 -- Forbids: a deed that hears a message which the receive did not give.
-abbrev pub DoesOnWire : Me → Working → Deed → Doing → Working → Type 0
+abbrev pub DoesOnWire : Me → Running → Deed → Doing → Running → Type 0
 DoesOnWire me w Idle d v = (v ≡ w) × SendsNothing d
 DoesOnWire me w (Start r) d v = ⊥
 DoesOnWire me w (Hear m) d v =
     (bytes : List ℕ) × Spells me.group bytes m × (d.given ≡ Some bytes ∷ [])
-    × RespondsOnWire me w (on_message w.known m.sender m.body) [] d v
+    × MakesOnWire me w (Makes (on_message w.known m.sender m.body) []) d v
 DoesOnWire me w (Press byte) d v =
-    (byte < 256) × (length w.known.waiting ≢ MOST_WAITING)
-    × (next_serial w.known ≢ LAST_SERIAL + 1) × (d.given ≡ [])
-    × RespondsOnWire me w (on_typed w.known byte) (new_key w.known byte ∷ []) d v
+    (byte < 256) × (d.given ≡ []) × MakesOnWire me w (call_of_press w.known byte) d v
 DoesOnWire me w Campaign d v =
-    (last_round w.known < LAST_ROUND) × (front w.known ≢ PLACES) × (d.given ≡ [])
-    × RespondsOnWire me w (on_campaign w.known) [] d v
-DoesOnWire me w Tick d v = (d.given ≡ []) × RespondsOnWire me w (on_tick w.known) [] d v
+    (d.given ≡ []) × MakesOnWire me w (call_of_campaign w.known) d v
+DoesOnWire me w Tick d v =
+    (d.given ≡ []) × MakesOnWire me w (Makes (on_tick w.known) []) d v
 DoesOnWire me w (Run steps) d v =
     (ran : Ran) × (v.known ≡ w.known) × RunsOn (input w.known) steps w.progress v.progress ran
     × IsReplay (input w.known) v.progress × (d.given ≡ []) × SendsNothing d
@@ -173,17 +162,21 @@ abbrev pub prompts_of : List Doing → List Deed
 prompts_of doings = flat_map (λ d. prompt_in d.deed) doings
 
 -- The deeds lead from the node `w` to `v`.
-abbrev pub DoesAll : Me → Working → List Doing → Working → Type 0
+abbrev pub DoesAll : Me → Running → List Doing → Running → Type 0
 DoesAll me w [] v = v ≡ w
 DoesAll me w (d ∷ doings) v =
-    (mid : Working) × DoesOnWire me w d.deed d mid × DoesAll me mid doings v
+    (mid : Running) × DoesOnWire me w d.deed d mid × DoesAll me mid doings v
+
+-- A call that is not refused.
+abbrev pub IsMade : NodeCall → Type 0
+IsMade (call.Refuses f) = ⊥
+IsMade (Makes done keys) = Unit {0}
 
 -- A deed of the node `w` at which its save fails: nothing is sent. The node ends with it.
-abbrev pub FailsDeed : Me → Working → Deed → Doing → Type 0
+abbrev pub FailsDeed : Me → Running → Deed → Doing → Type 0
 FailsDeed me w (Hear m) d =
     (bytes : List ℕ) × Spells me.group bytes m × (d.given ≡ Some bytes ∷ []) × SendsNothing d
-FailsDeed me w Campaign d =
-    (last_round w.known < LAST_ROUND) × (front w.known ≢ PLACES) × (d.given ≡ []) × SendsNothing d
+FailsDeed me w Campaign d = IsMade (call_of_campaign w.known) × (d.given ≡ []) × SendsNothing d
 FailsDeed me w _ d = ⊥
 
 -- ---- nodes and their wires
@@ -193,19 +186,19 @@ FailsDeed me w _ d = ⊥
 pub record HasDone {S : Type 0} (old new : NodeState S) (from to : Option Traffic)
     (doings : List Doing) : Type 0 where
   pub me : new.protocol.known.me ≡ old.protocol.known.me
-  pub does : DoesAll old.protocol.known.me (working old) doings (working new)
+  pub does : DoesAll old.protocol.known.me (running old) doings (running new)
   pub traffic : to ≡ grown from (transfers_of old.protocol.known.me doings)
 
 -- The same, and then a deed at which the node's save fails.
 pub record HasFailed {S : Type 0} (old new : NodeState S) (from to : Option Traffic)
     (doings : List Doing) (last : Doing) : Type 0 where
   pub me : new.protocol.known.me ≡ old.protocol.known.me
-  pub does : DoesAll old.protocol.known.me (working old) doings (working new)
-  pub fails : FailsDeed old.protocol.known.me (working new) last.deed last
+  pub does : DoesAll old.protocol.known.me (running old) doings (running new)
+  pub fails : FailsDeed old.protocol.known.me (running new) last.deed last
   pub traffic : to ≡ grown from (transfers_of old.protocol.known.me (doings ++ last ∷ []))
 
 -- Some deeds with these prompts, and all that passed over the wire is what passes in them.
--- Forbids: a deed that nobody asked for.
+-- Forbids: a press, a campaign or a run that is not a prompt.
 abbrev pub HasActed : {S : Type 0} → NodeState S → NodeState S → Option Traffic → Option Traffic
     → List Deed → Type 0
 HasActed old new from to prompts =

@@ -8,7 +8,8 @@ use Rattle.paxos_acceptor.specs.declared.store.StoreFault.{StoreFault}
 use Rattle.group_node.specs.Deeds.{Deed}
 use Rattle.group_protocol.specs.Known.{on_start}
 use Rattle.group_node.specs.Output.{no_progress}
-use Rattle.group_wire.specs.Doings.{DoesAll, Doing, FailsDeed, Working, prompts_of, transfers_of}
+use Rattle.group_node.specs.NodeCalls.{Running}
+use Rattle.group_wire.specs.Doings.{DoesAll, Doing, FailsDeed, prompts_of, transfers_of}
 use Rattle.group_wire.specs.Traffic.{Traffic, grown}
 
 -- A run of a process: the record that its load gave, what it did on its wire, and the deed at which
@@ -19,11 +20,11 @@ pub record Process : Type 0 where
   pub failed : Option Doing
 
 -- The node of a process that has started over this record.
-abbrev pub started : Parts → Me → Record → Working
+abbrev pub started : Parts → Me → Record → Running
 started p me loaded = record { known = (on_start me loaded).node; progress = no_progress p }
 
 -- The process was a run of the program, and its node came to be `last`.
-pub record IsProcess (p : Parts) (me : Me) (process : Process) (last : Working) : Type 0 where
+pub record IsProcess (p : Parts) (me : Me) (process : Process) (last : Running) : Type 0 where
   pub spare : process.loaded.starts ≢ LAST_START
   pub does : DoesAll me (started p me process.loaded) process.doings last
   pub fails : IfSome process.failed (λ d. FailsDeed me last d.deed d)
@@ -42,7 +43,7 @@ doings_of process = process.doings ++ failed_doing process.failed
 -- are their prompts. It ends at a failed save exactly if it `fails`.
 -- Forbids: a datagram that no deed sends; a message that no receive gave.
 pub record RunsAsProcess {S : Type 0} (loads : S → Result Record StoreFault → S → Type 0) (me : Me)
-    (program : Parts) (store : S) (last : Working) (from to : Option Traffic)
+    (program : Parts) (store : S) (last : Running) (from to : Option Traffic)
     (prompts : List Deed) (fails : Type 0) : Type 0 where
   pub process : Process
   pub left : S

@@ -1,5 +1,5 @@
 -- A turn of a node on its wire: the messages that it hears, a tick, and a run of its machine.
-use Rattle.std.specs.Prelude.{◌≡◌, ◌⊎◌, ◌↔◌, ◌≤◌, Bool, true, false, ⊤, List, [], ◌∷◌, ◌++◌, All, length, Option, Result, Ok, Err, IfErr, IfOk, IsErr, IsErrOf, OnErr, OnOk, ℕ, take}
+use Rattle.std.specs.Prelude.{◌≡◌, ◌⊎◌, ◌↔◌, ◌≤◌, Bool, true, false, List, [], ◌∷◌, ◌++◌, All, length, Option, Result, Ok, Err, IfErr, IfOk, IsErr, IsErrOf, OnErr, OnOk, ℕ, take}
 use Rattle.paxos_msg.specs.Batches.{Msg}
 use Rattle.paxos_acceptor.specs.Stores.{CountsIf, IsOneOf, StoreKind}
 use Rattle.group_protocol.specs.declared.fault.NodeFault.{NodeFault}
@@ -93,7 +93,7 @@ TellsOfOne (Ok answer.Nothing) came ending = (came ≡ []) × (ending ≡ NoneCa
 TellsOfOne (Ok answer.Dropped) came ending = IsOne came ending answer.Dropped
 TellsOfOne (Ok answer.Lost) came ending = IsOne came ending answer.Lost
 TellsOfOne (Ok answer.Message) came ending = IsOne came ending answer.Message
-TellsOfOne (Err e) came ending = (came ≡ []) × EndsAt ending (λ _. ⊤)
+TellsOfOne (Err e) came ending = (came ≡ []) × EndsAt ending (λ _. Unit {0})
 
 -- A store after a save failed at this message: it has the node's record, or that of the response.
 -- Forbids: a mixture of both.

@@ -9,7 +9,8 @@ ghost use Rattle.group_node.specs.Output.{unreleased_of};
 ghost use Rattle.group_protocol.specs.ProposerRows.{last_round};
 ghost use Rattle.group_node.specs.States.{input, NodeState};
 ghost use Rattle.group_wire.specs.Arrivals.{Spells};
-ghost use Rattle.group_wire.specs.Doings.{DoesAll, DoesOnWire, Doing, Fails, FailsDeed, HasActed, Working};
+ghost use Rattle.group_node.specs.NodeCalls.{Running};
+ghost use Rattle.group_wire.specs.Doings.{DoesAll, DoesOnWire, Doing, Fails, FailsDeed, HasActed};
 ghost use Rattle.group_wire.specs.Process.{IsProcess, Process};
 ghost use Rattle.group_wire.specs.Traffic.{Traffic};
 
@@ -30,24 +31,24 @@ pub fn deeds_go_on<S: Store>()
 /// its bytes do not spell. Nothing is typed at a tick, and nothing received; an idle node sends
 /// nothing and stays as it was. A run or a release sends nothing.
 pub fn wrong_deeds()
-    ensures hears_what_none_gave { (me : Me) (w v : Working) (m : Msg) (d : Doing) → d.given ≡ []
+    ensures hears_what_none_gave { (me : Me) (w v : Running) (m : Msg) (d : Doing) → d.given ≡ []
         → ¬ DoesOnWire me w (Hear m) d v }
-    ensures hears_what_is_not_spelled { (me : Me) (w v : Working) (m : Msg) (d : Doing)
+    ensures hears_what_is_not_spelled { (me : Me) (w v : Running) (m : Msg) (d : Doing)
         (bytes : List ℕ) → d.given ≡ Some bytes ∷ [] → ¬ Spells me.group bytes m
         → ¬ DoesOnWire me w (Hear m) d v }
-    ensures types_at_a_tick { (me : Me) (w v : Working) (d : Doing) → d.typed ≢ []
+    ensures types_at_a_tick { (me : Me) (w v : Running) (d : Doing) → d.typed ≢ []
         → ¬ DoesOnWire me w Tick d v }
-    ensures receives_at_a_tick { (me : Me) (w v : Working) (d : Doing) → d.given ≢ []
+    ensures receives_at_a_tick { (me : Me) (w v : Running) (d : Doing) → d.given ≢ []
         → ¬ DoesOnWire me w Tick d v }
-    ensures idle_sends { (me : Me) (w v : Working) (d : Doing) → d.sent ≢ []
+    ensures idle_sends { (me : Me) (w v : Running) (d : Doing) → d.sent ≢ []
         → ¬ DoesOnWire me w Idle d v }
-    ensures idle_changes { (me : Me) (w v : Working) (d : Doing) → v ≢ w
+    ensures idle_changes { (me : Me) (w v : Running) (d : Doing) → v ≢ w
         → ¬ DoesOnWire me w Idle d v }
-    ensures run_sends { (me : Me) (w v : Working) (steps : ℕ) (d : Doing) → d.sent ≢ []
+    ensures run_sends { (me : Me) (w v : Running) (steps : ℕ) (d : Doing) → d.sent ≢ []
         → ¬ DoesOnWire me w (Run steps) d v }
-    ensures run_learns { (me : Me) (w v : Working) (steps : ℕ) (d : Doing) → v.known ≢ w.known
+    ensures run_learns { (me : Me) (w v : Running) (steps : ℕ) (d : Doing) → v.known ≢ w.known
         → ¬ DoesOnWire me w (Run steps) d v }
-    ensures release_sends { (me : Me) (w v : Working) (d : Doing) → d.sent ≢ []
+    ensures release_sends { (me : Me) (w v : Running) (d : Doing) → d.sent ≢ []
         → ¬ DoesOnWire me w Release d v }
 {}
 
@@ -55,31 +56,31 @@ pub fn wrong_deeds()
 /// spent. No ballot begins after the last round. No byte is released where none waits. A node that
 /// runs neither starts nor crashes by a deed of its own.
 pub fn wrong_times()
-    ensures press_at_256 { (me : Me) (w v : Working) (byte : ℕ) (d : Doing)
+    ensures press_at_256 { (me : Me) (w v : Running) (byte : ℕ) (d : Doing)
         → length w.known.waiting ≡ 256 → ¬ DoesOnWire me w (Press byte) d v }
-    ensures press_without_serial { (me : Me) (w v : Working) (byte : ℕ) (d : Doing)
+    ensures press_without_serial { (me : Me) (w v : Running) (byte : ℕ) (d : Doing)
         → next_serial w.known ≡ 4294967296 → ¬ DoesOnWire me w (Press byte) d v }
-    ensures campaign_after_the_last { (me : Me) (w v : Working) (d : Doing)
+    ensures campaign_after_the_last { (me : Me) (w v : Running) (d : Doing)
         → last_round w.known ≡ 4294967295 → ¬ DoesOnWire me w Campaign d v }
-    ensures release_of_nothing { (me : Me) (w v : Working) (d : Doing)
+    ensures release_of_nothing { (me : Me) (w v : Running) (d : Doing)
         → unreleased_of (input w.known) w.progress ≡ [] → ¬ DoesOnWire me w Release d v }
-    ensures starts { (me : Me) (w v : Working) (r : Record) (d : Doing)
+    ensures starts { (me : Me) (w v : Running) (r : Record) (d : Doing)
         → ¬ DoesOnWire me w (Start r) d v }
-    ensures crashes { (me : Me) (w v : Working) (d : Doing) → ¬ DoesOnWire me w Crash d v }
+    ensures crashes { (me : Me) (w v : Running) (d : Doing) → ¬ DoesOnWire me w Crash d v }
 {}
 
 /// Ends that no process has. A save fails only at a message or a campaign, at which nothing is
 /// sent then; so a process does not end by a failed save at a tick. It does not start over a record
 /// whose starts are spent, and without a deed its node is the one that started.
 pub fn wrong_ends()
-    ensures fails_at_a_tick { (me : Me) (w : Working) (d : Doing) → ¬ FailsDeed me w Tick d }
-    ensures fails_at_a_press { (me : Me) (w : Working) (byte : ℕ) (d : Doing)
+    ensures fails_at_a_tick { (me : Me) (w : Running) (d : Doing) → ¬ FailsDeed me w Tick d }
+    ensures fails_at_a_press { (me : Me) (w : Running) (byte : ℕ) (d : Doing)
         → ¬ FailsDeed me w (Press byte) d }
-    ensures sends_at_a_failed_message { (me : Me) (w : Working) (m : Msg) (d : Doing)
+    ensures sends_at_a_failed_message { (me : Me) (w : Running) (m : Msg) (d : Doing)
         → d.sent ≢ [] → ¬ FailsDeed me w (Hear m) d }
-    ensures sends_at_a_failed_campaign { (me : Me) (w : Working) (d : Doing)
+    ensures sends_at_a_failed_campaign { (me : Me) (w : Running) (d : Doing)
         → d.sent ≢ [] → ¬ FailsDeed me w Campaign d }
-    ensures starts_are_spent { (p : Parts) (me : Me) (process : Process) (last : Working)
+    ensures starts_are_spent { (p : Parts) (me : Me) (process : Process) (last : Running)
         → process.loaded.starts ≡ 4294967295 → ¬ IsProcess p me process last }
-    ensures nothing_done { (me : Me) (w v : Working) → v ≢ w → ¬ DoesAll me w [] v }
+    ensures nothing_done { (me : Me) (w v : Running) → v ≢ w → ¬ DoesAll me w [] v }
 {}

@@ -13,7 +13,8 @@ use Rattle.group_world.specs.declared.event.Done.{Done}
 use Rattle.group_world.specs.Deeds.{EndsCall, Left, quietly}
 use Rattle.group_world.specs.Event.{world_after}
 use Rattle.group_world.specs.Group.{World, me_of, member_at, with_member}
-use Rattle.group_world.specs.Member.{CallOutcome, Fell, Happened, Makes, Member, NodeCall, Refused, call_outcome, done_of, member_after, member_after_call, member_after_fall, sent_by, typed_by}
+use Rattle.group_node.specs.NodeCalls.{Makes, NodeCall}
+use Rattle.group_world.specs.Member.{CallOutcome, Fell, Happened, Member, Refused, call_outcome, done_of, member_after, member_after_call, member_after_fall, sent_by, typed_by}
 
 -- a node of the list has a number, and lies at the index before it
 pub is_at : (members : List Member) (i : ℕ) (m : Member) → member_at members i ≡ Some m → (0 < i) × (slice_get members (i - 1) ≡ Some m)

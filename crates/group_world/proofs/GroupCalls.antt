@@ -21,12 +21,13 @@ use Rattle.group_world.specs.declared.event.Done.{Done}
 use Rattle.group_world.specs.declared.event.Done.TheVariants.{Applied}
 use Rattle.group_world.specs.declared.fault.WorldFault.{WorldFault}
 use Rattle.group_world.specs.declared.fault.WorldFault.TheVariants.{NoNode}
-use Rattle.group_world.specs.declared.member.Ask.{Ask}
-use Rattle.group_world.specs.declared.member.Ask.TheVariants.{Campaign, Hear, Tick}
+use Rattle.group_world.specs.declared.member.SendingCall.{SendingCall}
+use Rattle.group_world.specs.declared.member.SendingCall.TheVariants.{Campaign, Hear, Tick}
 use Rattle.group_world.specs.Deeds.{DoesDeed, EndsCall, Left, quietly}
 use Rattle.group_world.specs.Event.{DoesAt, node_of}
 use Rattle.group_world.specs.Group.{HasUp, me_of, member_at, messages_in, World}
-use Rattle.group_world.specs.Member.{NodeCall, call_of_ask, call_of_press, call_outcome, CallEnds, Member, Running, RunsMember, deed_of_ask, member_after_release}
+use Rattle.group_node.specs.NodeCalls.{NodeCall, call_of_press, Running}
+use Rattle.group_world.specs.Member.{call_of_sending, call_outcome, CallEnds, Member, RunsMember, deed_of_sending, member_after_release}
 use Rattle.group_world.specs.Refusals.{refusal, refusal_at, refusal_of, unless_up}
 use Rattle.group_world.specs.Sound.{IsSound, IsSpelling}
 use Rattle.group_world.proofs.CallLeaves.{is_at, set_same}
@@ -101,24 +102,25 @@ module _ {w was : World} (is : w ≡ was) (i : ℕ) {place : ℕ} {lent : Member
         )
 
     -- a delivery, a campaign and a tick
-    asked_so : {q : Running} (plan : Option Bool) (ask : Ask) {left : Left} → has.0.node ≡ Some q
-        → EndsCall (me_of was i) has.0 q.progress plan (call_of_ask q.known ask) left
-        → DoesDeed was.program (me_of was i) has.0 plan (deed_of_ask ask) left
-    asked_so {q} plan (Hear message) up ends = (q, up, ends)
-    asked_so {q} plan Campaign up ends = (q, up, ends)
-    asked_so {q} plan Tick up ends = (q, up, ends)
+    sending_does : {q : Running} (plan : Option Bool) (call : SendingCall) {left : Left} → has.0.node ≡ Some q
+        → EndsCall (me_of was i) has.0 q.progress plan (call_of_sending q.known call) left
+        → DoesDeed was.program (me_of was i) has.0 plan (deed_of_sending call) left
+    sending_does {q} plan (Hear message) up ends = (q, up, ends)
+    sending_does {q} plan Campaign up ends = (q, up, ends)
+    sending_does {q} plan Tick up ends = (q, up, ends)
 
-    pub asks_so : {sent : List Datagram} (new : Member) (packets : List Datagram) → IsSound was → (plan : Option Bool) (ask : Ask)
+    pub sending_so : {sent : List Datagram} (new : Member) (packets : List Datagram) → IsSound was → (plan : Option Bool)
+        (call : SendingCall)
         (r : Result Done WorldFault) → sent ≡ w.sent ++ packets
         → ((q : Running) → lent.node ≡ Some q → IfOk r (λ d.
-        CallEnds q.known.me lent q.progress (call_outcome plan lent.kept (call_of_ask q.known ask)) d new packets []))
-        → IfOk r (λ d. DoesAt was i plan (deed_of_ask ask) d (parts w place new sent w.typed))
-    asks_so new packets sound plan ask r sends ends =
+        CallEnds q.known.me lent q.progress (call_outcome plan lent.kept (call_of_sending q.known call)) d new packets []))
+        → IfOk r (λ d. DoesAt was i plan (deed_of_sending call) d (parts w place new sent w.typed))
+    sending_so new packets sound plan call r sends ends =
         let (m, q, up) = has in
         IfOk-weaker r _ _
         (λ d ends.
-        does_so up.there plan (deed_of_ask ask) d new packets [] sends (none_more _)
-        (asked_so plan ask up.up (call_so up.there plan (λ _ _. call_of_ask q.known ask) (running sound up).me_is ends)))
+        does_so up.there plan (deed_of_sending call) d new packets [] sends (none_more _)
+        (sending_does plan call up.up (call_so up.there plan (λ _ _. call_of_sending q.known call) (running sound up).me_is ends)))
         (ends q lent_up)
 
     -- a run, a release and a crash

@@ -9,7 +9,7 @@ mod WrittenVotes
 mod OrderPossible
 mod HoldsAfterEvents
 mod SmallPrograms
-mod AskEnds
+mod SendingCalls
 mod MemberCalls
 mod GroupCalls
 mod ProcessEvents

@@ -17,7 +17,8 @@ use Rattle.group_node.specs.States.{NodeState, input}
 use Rattle.group_world.specs.declared.event.Done.TheVariants as done
 use Rattle.group_world.specs.declared.member.UpOrDown.{UpOrDown}
 use Rattle.group_world.specs.declared.member.UpOrDown.TheVariants as member
-use Rattle.group_world.specs.Member.{call_outcome, CallEnds, IsOpen, IsSettled, kept_of, Member, member_of, call_of_press, member_after_release, Running, running, RunsMember, store_of}
+use Rattle.group_node.specs.NodeCalls.{call_of_press, Running, running}
+use Rattle.group_world.specs.Member.{call_outcome, CallEnds, IsOpen, IsSettled, kept_of, Member, member_of, member_after_release, RunsMember, store_of}
 
 -- the store of one that is settled has the record that a start finds
 pub settled_kept : (s : UpOrDown) → IsSettled s → (store_of s).stored ≡ kept_of s

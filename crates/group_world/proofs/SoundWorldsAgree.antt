@@ -13,7 +13,8 @@ use Rattle.group_node.specs.Console.{offer_answer, offered}
 use Rattle.group_node.specs.Inputs.{IsInput, AreChosen}
 use Rattle.group_node.specs.World.{Up}
 use Rattle.group_world.specs.Group.{IsUp, member_at, seat_of_member, up_of, World, world_state}
-use Rattle.group_world.specs.Member.{Member, Running}
+use Rattle.group_node.specs.NodeCalls.{Running}
+use Rattle.group_world.specs.Member.{Member}
 use Rattle.group_world.specs.Headline.{ConsolesAgree, ConsolesHoldOutput, HasLearned, HasNoGap, LearnedAgree, LearnedChosen}
 use Rattle.group_world.specs.Sound.{IsSound, IsLearnedChosen}
 use Rattle.group_world.proofs.OrderLists.{here_place, left_place}

@@ -28,7 +28,8 @@ use Rattle.pcode_machine.specs.Runs.{after_steps}
 use Rattle.group_node.specs.World.{after_call, with_seat}
 use Rattle.group_world.specs.Group.{IsUp, me_of, member_at, messages_in, new_world, seat_of_member, with_member, World, world_state}
 use Rattle.group_world.proofs.CallLeaves.{is_at, world_after_call}
-use Rattle.group_world.specs.Member.{Member, member_after_call, Running}
+use Rattle.group_node.specs.NodeCalls.{Running}
+use Rattle.group_world.specs.Member.{Member, member_after_call}
 use Rattle.group_world.specs.Sound.{IsMemberSound, IsRunningSound, IsSound, IsSpelling}
 
 -- ---- lists with one element changed

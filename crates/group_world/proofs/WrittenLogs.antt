@@ -24,7 +24,8 @@ use Rattle.group_world.specs.declared.event.Outcome.{Outcome}
 use Rattle.group_world.specs.Deeds.{DoesDeed, EndsCall, Left}
 use Rattle.group_world.specs.Event.{IsDeedOf, LeadsBy, kept_event, node_of}
 use Rattle.group_world.specs.Group.{World, me_of, member_at, messages_in}
-use Rattle.group_world.specs.Member.{Makes, Member, call_of_campaign, call_of_press, member_after_call, member_after_release, call_of_start, NodeCall, RunsMember}
+use Rattle.group_node.specs.NodeCalls.{Makes, call_of_campaign, call_of_press, call_of_start, NodeCall}
+use Rattle.group_world.specs.Member.{Member, member_after_call, member_after_release, RunsMember}
 use Rattle.group_world.specs.Processes.{after_log, AreEventsOf, DoesEntry, Entry, IsLog}
 use Rattle.group_world.specs.WrittenLogs.{entry_with, hear_entry, node_in, press_entry, quiet_entry, start_after, started_times, first_ballot}
 use Rattle.group_world.proofs.CallLeaves.{kept_call}

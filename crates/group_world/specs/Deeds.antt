@@ -11,7 +11,8 @@ use Rattle.group_node.specs.States.{input}
 use Rattle.group_protocol.specs.Tick.{on_tick}
 use Rattle.group_world.specs.declared.event.Done.{Done}
 use Rattle.group_world.specs.declared.event.Done.TheVariants.{Applied}
-use Rattle.group_world.specs.Member.{CallEnds, Makes, Member, NodeCall, Running, RunsMember, call_of_campaign, call_of_press, call_of_start, call_outcome, member_after_fall, member_after_release}
+use Rattle.group_node.specs.NodeCalls.{Makes, NodeCall, Running, call_of_campaign, call_of_press, call_of_start}
+use Rattle.group_world.specs.Member.{CallEnds, Member, RunsMember, call_outcome, member_after_fall, member_after_release}
 
 -- What a deed leaves: its answer, the node after it, the datagrams that it sent, and the keys that
 -- were typed.

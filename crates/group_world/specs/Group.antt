@@ -14,7 +14,8 @@ use Rattle.group_protocol.specs.WaitingKeys.{waiting_keys}
 use Rattle.group_protocol.specs.Packets.{Datagram}
 use Rattle.group_node.specs.States.{input}
 use Rattle.group_node.specs.World.{Seat, Up, WorldState}
-use Rattle.group_world.specs.Member.{Member, Running}
+use Rattle.group_node.specs.NodeCalls.{Running}
+use Rattle.group_world.specs.Member.{Member}
 
 -- A program and a group that runs it: its nodes, node 1 first, and all that was sent and typed.
 -- What was sent are datagrams, and each typed key is a batch of one; the oldest are first.

@@ -1,6 +1,5 @@
 -- One node of a group: up or down, its calls, and how a call ends.
-use Rattle.std.specs.Prelude.{◌≡◌, ◌≢◌, ◌⊎◌, ℕ, ◌+◌, ◌==◌, nat_lt, Bool, if◌then◌else◌, false, List, [], ◌∷◌, length, Option, Some, None, Result, Ok, Err, IfErr}
-use Rattle.paxos_msg.specs.declared.limits.TheConstants.{LAST_ROUND, LAST_SERIAL, LAST_START, PLACES}
+use Rattle.std.specs.Prelude.{◌≡◌, ◌≢◌, ◌⊎◌, ℕ, ◌+◌, Bool, if◌then◌else◌, false, List, [], Option, Some, None, Result, Ok, Err, IfErr}
 use Rattle.paxos_msg.specs.declared.value.Value.{Value}
 use Rattle.paxos_msg.specs.Batches.{Change, Record}
 use Rattle.paxos_msg.specs.Datagrams.{Fits}
@@ -8,33 +7,27 @@ use Rattle.paxos_acceptor.specs.declared.me.Me.{Me}
 use Rattle.paxos_acceptor.specs.Stores.{StoreState}
 use Rattle.group_protocol.specs.declared.fault.NodeFault.{NodeFault}
 use Rattle.group_protocol.specs.declared.fault.NodeFault.TheVariants as fault
-use Rattle.group_protocol.specs.declared.limits.TheConstants.{MOST_WAITING}
 use Rattle.group_node.specs.declared.player.Ran.{Ran}
 use Rattle.group_node.specs.Console.{offered}
 use Rattle.group_node.specs.Deeds as deed
 use Rattle.group_node.specs.Deeds.{Deed}
-use Rattle.group_protocol.specs.Known.{Response, Known, front, new_key, next_serial, on_start, on_typed}
+use Rattle.group_protocol.specs.Known.{Response, Known}
+use Rattle.group_node.specs.NodeCalls.{Makes, NodeCall, Refuses, Running, call_of_campaign, running}
 use Rattle.group_node.specs.Output.{IsReplay, Progress, RunsOn}
 use Rattle.group_protocol.specs.Packets.{Datagram, datagrams_of}
 use Rattle.group_protocol.specs.Protocol.{on_message}
-use Rattle.group_protocol.specs.ProposerRows.{last_round, on_campaign}
 use Rattle.group_node.specs.States.{NodeState, input}
 use Rattle.group_protocol.specs.Tick.{on_tick}
 use Rattle.group_world.specs.declared.event.Done.{Done}
 use Rattle.group_world.specs.declared.event.Done.TheVariants as done
 use Rattle.group_world.specs.declared.fault.WorldFault.{WorldFault}
 use Rattle.group_world.specs.declared.fault.WorldFault.TheVariants.{Memory}
-use Rattle.group_world.specs.declared.member.Ask.{Ask}
-use Rattle.group_world.specs.declared.member.Ask.TheVariants.{Campaign, Hear, Tick}
+use Rattle.group_world.specs.declared.member.SendingCall.{SendingCall}
+use Rattle.group_world.specs.declared.member.SendingCall.TheVariants.{Campaign, Hear, Tick}
 use Rattle.group_world.specs.declared.member.UpOrDown.{UpOrDown}
 use Rattle.group_world.specs.declared.member.UpOrDown.TheVariants as member
 
 -- ---- a node as contracts see it
-
--- A node that is up: what it knows, and the progress of its machine.
-pub record Running : Type 0 where
-  pub known : Known
-  pub progress : Progress
 
 -- A node of a group: its stored record, what its console has shown, and itself where it is up.
 -- Forbids: that a console or a record is lost when the node goes down.
@@ -52,10 +45,6 @@ abbrev pub FailsByMemory : {T : Type 0} → Result T WorldFault → Type 0
 FailsByMemory result = IfErr result (λ e. e ≡ Memory)
 
 -- ---- up or down, as the code keeps it
-
--- A node of the code as a node that is up.
-abbrev pub running : NodeState StoreState → Running
-running n = record { known = n.protocol.known; progress = n.progress }
 
 -- A node whose store works and has the node's record.
 pub record IsOpen (n : NodeState StoreState) : Type 0 where
@@ -88,48 +77,20 @@ member_of s console = record { kept = kept_of s; console = console; node = runni
 
 -- ---- calls
 
--- A call of a node before its save: a refusal, or a response and the keys that were typed.
-pub data NodeCall : Type 0 where
-  Refuses : NodeFault → NodeCall
-  Makes : Response → List Value → NodeCall
-
--- The call that types a byte.
--- It is refused if 256 keys wait, or else if the serials are spent.
--- Forbids: a refusal where there is a key to spare.
-abbrev pub call_of_press : Known → ℕ → NodeCall
-call_of_press n byte =
-    if length n.waiting == MOST_WAITING then Refuses fault.Busy
-    else (if next_serial n == LAST_SERIAL + 1 then Refuses fault.SerialSpent
-    else Makes (on_typed n byte) (new_key n byte ∷ []))
-
--- The call that begins a ballot.
--- It is refused if the rounds are spent, or else if the places are.
--- Forbids: a refusal where there is a round and a place to spare.
-abbrev pub call_of_campaign : Known → NodeCall
-call_of_campaign n =
-    if nat_lt (last_round n) LAST_ROUND
-    then (if front n == PLACES then Refuses fault.PlacesSpent else Makes (on_campaign n) [])
-    else Refuses fault.RoundsSpent
-
--- The call that starts a node over the record `r`. It is refused if the starts are spent.
-abbrev pub call_of_start : Me → Record → NodeCall
-call_of_start me r =
-    if r.starts == LAST_START then Refuses fault.StartsSpent else Makes (on_start me r) []
-
 -- A call that may send: a delivery, a campaign or a tick.
-abbrev pub call_of_ask : Known → Ask → NodeCall
-call_of_ask n (Hear message) = Makes (on_message n message.sender message.body) []
-call_of_ask n Campaign = call_of_campaign n
-call_of_ask n Tick = Makes (on_tick n) []
+abbrev pub call_of_sending : Known → SendingCall → NodeCall
+call_of_sending n (Hear message) = Makes (on_message n message.sender message.body) []
+call_of_sending n Campaign = call_of_campaign n
+call_of_sending n Tick = Makes (on_tick n) []
 
 -- The deed of such a call.
-abbrev pub deed_of_ask : Ask → Deed
-deed_of_ask (Hear message) = deed.Hear message
-deed_of_ask Campaign = deed.Campaign
-deed_of_ask Tick = deed.Tick
+abbrev pub deed_of_sending : SendingCall → Deed
+deed_of_sending (Hear message) = deed.Hear message
+deed_of_sending Campaign = deed.Campaign
+deed_of_sending Tick = deed.Tick
 
 -- A call whose message, if it has one, a node of the group may have sent.
-abbrev pub IsOfMember : Known → Ask → Type 0
+abbrev pub IsOfMember : Known → SendingCall → Type 0
 IsOfMember n (Hear message) = Fits n.me.group message
 IsOfMember n Campaign = Unit {0}
 IsOfMember n Tick = Unit {0}

@@ -58,6 +58,7 @@ entries_of i log = filter (λ e. e.node == i) log
 abbrev pub sent_in : List Entry → List Datagram
 sent_in log = flat_map (λ e. e.sent) log
 
+-- The keys that were typed in these entries, in order.
 abbrev pub typed_in : List Entry → List Value
 typed_in log = flat_map (λ e. e.typed) log
 

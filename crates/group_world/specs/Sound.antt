@@ -23,7 +23,8 @@ use Rattle.group_protocol.specs.States.{IsSize}
 use Rattle.group_node.specs.States.{input}
 use Rattle.group_protocol.specs.Steps.{AllChosen, AllTyped}
 use Rattle.group_world.specs.Group.{me_of, member_at, message_of, World, world_state}
-use Rattle.group_world.specs.Member.{Member, Running}
+use Rattle.group_node.specs.NodeCalls.{Running}
+use Rattle.group_world.specs.Member.{Member}
 
 -- A datagram that spells a message.
 pub record IsSpelling (group : Group) (datagram : Datagram) : Type 0 where

@@ -6,7 +6,8 @@ ghost use Rattle.group_node.specs.Output.{no_progress, unreleased_of};
 ghost use Rattle.group_node.specs.States.{input};
 ghost use Rattle.group_world.specs.declared.event.Done.TheVariants.{Applied, Refused};
 ghost use Rattle.group_world.specs.declared.member.UpOrDown.TheVariants.{Down};
-ghost use Rattle.group_world.specs.Member.{call_of_ask, call_outcome, CallEnds, FailsByMemory, IsDone, IsMemberUp, IsOfMember, IsSettled, kept_of, call_of_press, member_after_release, Running, running, running_of, RunsMember, call_of_start, store_of};
+ghost use Rattle.group_node.specs.NodeCalls.{call_of_press, Running, running, call_of_start};
+ghost use Rattle.group_world.specs.Member.{call_of_sending, call_outcome, CallEnds, FailsByMemory, IsDone, IsMemberUp, IsOfMember, IsSettled, kept_of, member_after_release, running_of, RunsMember, store_of};
 
 use crate::event::Done;
 use crate::fault::WorldFault;
@@ -20,7 +21,7 @@ use std::mem;
 
 /// A call of a node that may send.
 #[derive(Drop)]
-pub(crate) enum Ask<'a> {
+pub(crate) enum SendingCall<'a> {
     /// Takes this message.
     Hear(View<'a>),
     /// Begins its own ballot.
@@ -236,18 +237,18 @@ impl<'a> Member<'a> {
     /// store then keeps; after a failed save the node is down. Fails with `Memory` if memory runs
     /// out; then nothing has changed.
     #[tactic(none)]
-    pub(crate) fn ask(
+    pub(crate) fn call(
         &mut self,
         alloc: Global,
-        ask: &Ask<'_>,
+        call: &SendingCall<'_>,
         plan: Option<bool>,
         outbox: &mut Outbox,
     ) -> Result<Done, WorldFault>
-        requires up { (q : Running) × (self.old.node ≡ Some q) × IsOfMember q.known ask.now }
+        requires up { (q : Running) × (self.old.node ≡ Some q) × IsOfMember q.known call.now }
         requires empty { outbox.old.packets ≡ [] }
         ensures ends { (q : Running) → self.old.node ≡ Some q
             → IfOk result (λ d. CallEnds q.known.me self.old q.progress
-            (call_outcome plan self.old.kept (call_of_ask q.known ask.now))
+            (call_outcome plan self.old.kept (call_of_sending q.known call.now))
             d self.new outbox.new.packets []) }
         ensures err { OnErr result ((self.new ≡ self.old) × (outbox.new.packets ≡ [])) }
         ensures memory { FailsByMemory result }
@@ -255,10 +256,10 @@ impl<'a> Member<'a> {
         match &mut self.up_or_down {
             UpOrDown::Up(node) => {
                 node.fail_next(plan);
-                let answer = match ask {
-                    Ask::Hear(view) => node.on_message(view, outbox),
-                    Ask::Campaign => node.campaign(outbox),
-                    Ask::Tick => node.tick(outbox),
+                let answer = match call {
+                    SendingCall::Hear(view) => node.on_message(view, outbox),
+                    SendingCall::Campaign => node.campaign(outbox),
+                    SendingCall::Tick => node.tick(outbox),
                 };
                 self.up_or_down.settle(alloc, answer)
             }

@@ -2,7 +2,7 @@
 ghost use Rattle.std.specs.Prelude.{◌≡◌, ◌↔◌, ◌⊎◌, length, option_and_then, option_map, slice_get, IfErr, IfOk, IsErrOf, OnOk};
 ghost use Rattle.group_protocol.specs.States.{IsSize};
 ghost use Rattle.group_world.specs.Group.{member_at, new_world, world_state};
-ghost use Rattle.group_world.specs.Member.{running};
+ghost use Rattle.group_node.specs.NodeCalls.{running};
 ghost use Rattle.group_world.specs.Refusals.{Applies};
 ghost use Rattle.group_world.specs.Headline.{ConsolesAgree, ConsolesGrow, ConsolesHoldOutput, HasNoGap, LearnedAgree, LearnedChosen, LearnedStays};
 ghost use Rattle.group_world.specs.Order.{KeysOnce, SerialsInOrder};

@@ -1,5 +1,5 @@
 -- A whole run of a node, by its answer.
-use Rattle.std.proofs.Common.{◌≡◌, ◌⊎◌, inl, inr, ℕ, List, Option, IfErr, IsErrOf, Result, Ok, Err, refl, sym, ap, subst, arith}
+use Rattle.std.proofs.Common.{◌≡◌, ◌⊎◌, inl, inr, ℕ, List, Option, IfErr, IsErrOf, OnOk, Result, Ok, Err, refl, sym, ap, subst, arith}
 use Rattle.std.proofs.lemmas.Grind.{common_steps}
 use Rattle.std.proofs.lemmas.List.{drop_all}
 use Rattle.std.specs.declared.net.socket_addr.SocketAddr.{SocketAddr}
@@ -8,14 +8,14 @@ use Rattle.paxos_acceptor.specs.declared.me.Me.{Me}
 use Rattle.paxos_acceptor.specs.Stores.{StoreKind}
 use Rattle.group_node.specs.Output.{IsReplay, no_progress}
 use Rattle.group_node.specs.States.{NodeState, input}
-use Rattle.group_wire.specs.Doings.{working}
+use Rattle.group_node.specs.NodeCalls.{running}
 use Rattle.group_wire.specs.Starts.{HasStarted}
 use Rattle.group_udp.specs.declared.fault.GroupFault.{GroupFault}
 use Rattle.node_run.specs.declared.node.NodePlan.{NodePlan}
 use Rattle.node_run.specs.Ends.{RunsOpened, RunsWith, keys_at_first}
 use Rattle.node_run.specs.Going.{Around, HasGone, planned}
-use Rattle.node_run.specs.Output.{AppendsOutput}
-use Rattle.group_udp.specs.Refusals.{IsCampaignRefusal, IsWrittenRoundRefusal, write_failed}
+use Rattle.node_run.specs.Output.{AppendsOutput, NoneWaits}
+use Rattle.group_udp.specs.Refusals.{IsCampaignRefusal, IsWrittenCycleRefusal, write_failed}
 use Rattle.node_run.specs.Runs.{RunsNode, WritesReleased}
 use Rattle.node_run.proofs.Going.{is_store, prompted_if}
 use Rattle.node_run.proofs.Starting.{ran_on, ran_out}
@@ -23,7 +23,7 @@ use Rattle.node_run.proofs.Starting.{ran_on, ran_out}
 -- what was written from a start on
 written_from : {S : Type 0} (p : Parts) (seen : ℕ) (first last : NodeState S) (fails : Type 0) (c d : Option (List ℕ))
     → first.progress ≡ no_progress p → IsReplay (input last.protocol.known) last.progress → AppendsOutput seen first last fails c d
-    → WritesReleased seen (working last) fails c d
+    → WritesReleased seen (running last) fails c d
 written_from p seen first last fails c d start replay (wrote, h, appends) = grind (arith, common_steps, h.lost, drop_all)
 
 module _ {S : Type 0} (kind : StoreKind S) (me : Me) (program : Parts)
@@ -31,10 +31,10 @@ module _ {S : Type 0} (kind : StoreKind S) (me : Me) (program : Parts)
     (starts : HasStarted kind me program store (Ok first)) (replay : IsReplay (input last.protocol.known) last.progress) where
   pub runs_by : (result : Result (Unit {0}) GroupFault) → HasGone (planned plan.campaigns) first last from to plan.turns result
       → AppendsOutput plan.seen first last (IsErrOf result write_failed) before after
-      → IfErr result (λ e. IsWrittenRoundRefusal e ⊎ IsCampaignRefusal e)
+      → OnOk result (NoneWaits last) → IfErr result (λ e. IsWrittenCycleRefusal e ⊎ IsCampaignRefusal e)
       → RunsNode kind.loads me program store plan from to before after result
-  runs_by (Ok x) h writes others = record {
-    last = working last;
+  runs_by (Ok x) h writes none others = record {
+    last = running last;
     first = planned plan.campaigns;
     prompts = h.prompts;
     runs = ran_on kind me program store first last from.traffic to.traffic starts _ (λ is. absurd cc) h.acts;
@@ -48,9 +48,10 @@ module _ {S : Type 0} (kind : StoreKind S) (me : Me) (program : Parts)
     ends = tt;
     due = tt;
     writes = written_from program plan.seen first last _ before after starts.fresh.progress replay writes;
+    none_waits = none;
   }
-  runs_by (Err e) (begun, is, done, few, h) writes others = record {
-    last = working last;
+  runs_by (Err e) (begun, is, done, few, h) writes none others = record {
+    last = running last;
     first = begun;
     prompts = h.prompts;
     runs = elim (is_store e) [
@@ -69,6 +70,7 @@ module _ {S : Type 0} (kind : StoreKind S) (me : Me) (program : Parts)
     ends = others;
     due = h.due;
     writes = written_from program plan.seen first last _ before after starts.fresh.progress replay writes;
+    none_waits = tt;
   }
 
 -- ---- over the files and sockets of the system

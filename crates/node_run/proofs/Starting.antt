@@ -7,7 +7,8 @@ use Rattle.paxos_acceptor.specs.declared.store.StoreFault.{StoreFault}
 use Rattle.paxos_acceptor.specs.Stores.{StoreKind}
 use Rattle.group_node.specs.States.{NodeState}
 use Rattle.group_node.specs.Deeds.{Deed}
-use Rattle.group_wire.specs.Doings.{DoesAll, Fails, HasActed, Working, working}
+use Rattle.group_node.specs.NodeCalls.{Running, running}
+use Rattle.group_wire.specs.Doings.{DoesAll, Fails, HasActed}
 use Rattle.group_wire.specs.Starts.{HasStarted}
 use Rattle.group_wire.specs.Traffic.{Traffic}
 use Rattle.group_wire.specs.Process.{RunsAsProcess, started}
@@ -19,7 +20,7 @@ record Starts {S : Type 0} (loads : S → Result Record StoreFault → S → Typ
   left : S
   loaded : loads store (Ok kept) left
   spare : kept.starts ≢ 4294967295
-  begins : working first ≡ started program me kept
+  begins : running first ≡ started program me kept
 
 starts_so : {S : Type 0} (kind : StoreKind S) (me : Me) (program : Parts) (store : S) (first : NodeState S)
     → HasStarted kind me program store (Ok first) → Starts kind.loads me program store first
@@ -33,17 +34,17 @@ module _ {S : Type 0} (kind : StoreKind S) (me : Me) (program : Parts)
   s = starts_so kind me program store first h
 
   me_is : first.protocol.known.me ≡ me
-  me_is = ap (λ (w : Working). w.known.me) s.begins
+  me_is = ap (λ (w : Running). w.known.me) s.begins
 
   pub ran_on : {fails : Type 0} → ¬ fails → HasActed first new from to prompts
-      → RunsAsProcess kind.loads me program store (working new) from to prompts fails
+      → RunsAsProcess kind.loads me program store (running new) from to prompts fails
   ran_on none (doings, done, are) = record {
     process = record { loaded = s.kept; doings = doings; failed = None };
     left = s.left;
     loaded = s.loaded;
     runs = record {
       spare = s.spare;
-      does = subst (λ (w : Working). DoesAll w.known.me w doings (working new)) s.begins done.does;
+      does = subst (λ (w : Running). DoesAll w.known.me w doings (running new)) s.begins done.does;
       fails = tt;
     };
     traffic = rw (append-nil doings) (rw me_is at done.traffic);
@@ -53,14 +54,14 @@ module _ {S : Type 0} (kind : StoreKind S) (me : Me) (program : Parts)
 
   -- where one did
   pub ran_out : {fails : Type 0} → fails → Fails first new from to prompts
-      → RunsAsProcess kind.loads me program store (working new) from to prompts fails
+      → RunsAsProcess kind.loads me program store (running new) from to prompts fails
   ran_out f (doings, last, failed, are) = record {
     process = record { loaded = s.kept; doings = doings; failed = Some last };
     left = s.left;
     loaded = s.loaded;
     runs = record {
       spare = s.spare;
-      does = subst (λ (w : Working). DoesAll w.known.me w doings (working new)) s.begins failed.does;
+      does = subst (λ (w : Running). DoesAll w.known.me w doings (running new)) s.begins failed.does;
       fails = rw me_is at failed.fails;
     };
     traffic = rw me_is at failed.traffic;

@@ -4,10 +4,12 @@ use Rattle.std.proofs.Math.Seq.{drop-append-add}
 use Rattle.std.proofs.lemmas.Grind.{common_steps}
 use Rattle.std.proofs.lemmas.List.{drop-append-le, drop_all}
 use Rattle.std.proofs.KnownBytes.{Appends-nil}
-use Rattle.group_node.specs.Output.{IsReplay}
+use Rattle.pcode_file.specs.Parts.{Parts}
+use Rattle.pcode_machine.specs.Runs.{after_steps, out}
+use Rattle.group_node.specs.Output.{IsReplay, no_progress}
 use Rattle.group_node.specs.States.{NodeState, input}
 use Rattle.group_wire.specs.Turns.{released_by}
-use Rattle.node_run.specs.Output.{AppendsOutput, ReleasesBytes, WritesOutput}
+use Rattle.node_run.specs.Output.{AppendsOutput, NoneWaits, ReleasesBytes, WritesOutput}
 use Rattle.node_run.specs.Releases.{LosesOutput, NodeMoment, WritesAll}
 use Rattle.node_run.proofs.Releasing.{released_on}
 
@@ -24,6 +26,11 @@ none_lost not whole = grind (arith, common_steps)
 pub wrote_none : {S : Type 0} (seen : ℕ) (old new : NodeState S) (fails : Type 0) (c : Option (List ℕ)) → ¬ fails
     → released_by new ≡ released_by old → AppendsOutput seen old new fails c c
 wrote_none seen old new fails c not same = ([], none_lost not (grind (arith, common_steps)), Appends-nil c)
+
+-- a node that has begun has written nothing
+pub none_at_start : {S : Type 0} (n : NodeState S) (p : Parts) → n.progress ≡ no_progress p → NoneWaits n
+unfolding after_steps out
+none_at_start n p begins = rw begins refl
 
 -- bytes were released, and those that were not seen were written or lost
 unseen_gone : {S : Type 0} (seen : ℕ) (old mid new : NodeState S) {gone : List ℕ} → released_by mid ≡ released_by old

@@ -13,6 +13,7 @@ use Rattle.group_wire.specs.Traffic.{Traffic}
 use Rattle.group_udp.specs.declared.fault.GroupFault.{GroupFault}
 use Rattle.group_udp.specs.declared.fault.GroupFault.TheVariants as group
 use Rattle.group_udp.specs.Prompts.{IsPrompted, Remaining, with_gift}
+use Rattle.node_run.specs.declared.endpoints.Endpoints.{Endpoints}
 
 -- What is known around a node: what has passed over its wire, and what its keyboard has left.
 pub record Around : Type 0 where
@@ -22,6 +23,13 @@ pub record Around : Type 0 where
 -- These two, put together.
 abbrev pub around : Option Traffic → Option Remaining → Around
 around traffic keys = record { traffic = traffic; keys = keys }
+
+-- What is known around a node by its wire and its keyboard. The two functions tell what has passed
+-- over a wire, and what a keyboard has left.
+abbrev pub around_of : {T K : Type 0} → (T → Option Traffic) → (K → Option Remaining)
+    → Endpoints T K → Around
+around_of traffic_of left_of endpoints =
+    around (traffic_of endpoints.wire) (left_of endpoints.keyboard)
 
 -- The prompts of a plan before the first turn.
 abbrev pub planned : Bool → List Deed

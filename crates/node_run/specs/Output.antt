@@ -4,7 +4,7 @@ use Rattle.std.specs.Io.KnownBytes.{Appends}
 use Rattle.pcode_file.specs.Parts.{Parts}
 use Rattle.pcode_machine.specs.Runs.{out}
 use Rattle.group_node.specs.Output.{Progress, unreleased_of}
-use Rattle.group_node.specs.States.{NodeState}
+use Rattle.group_node.specs.States.{NodeState, input}
 use Rattle.group_wire.specs.Turns.{released_by, released_of}
 
 -- The released bytes with a number from `seen` on.
@@ -15,6 +15,10 @@ shown_of seen x q = drop seen (released_of x q)
 -- The waiting bytes with a number from `seen` on.
 abbrev pub unseen_of : ℕ → List ℕ → Progress → List ℕ
 unseen_of seen x q = drop (seen - q.released) (unreleased_of x q)
+
+-- A node at which no output waits.
+abbrev pub NoneWaits : {S : Type 0} → NodeState S → Type 0
+NoneWaits n = unreleased_of (input n.protocol.known) n.progress ≡ []
 
 -- The progress of a node once all bytes that wait are released.
 abbrev pub all_released : List ℕ → Progress → Progress

@@ -15,7 +15,7 @@ use Rattle.node_run.specs.declared.press.Pressed.{Pressed}
 use Rattle.node_run.specs.declared.press.Pressed.TheVariants.{Bytes, Campaigned, CampaignRefused, Ignored}
 use Rattle.node_run.specs.Going.{Around, FailsAt, HasEnded, HasReason}
 use Rattle.group_udp.specs.Prompts.{Remaining, with_gift}
-use Rattle.group_udp.specs.Refusals.{IsRoundRefusal}
+use Rattle.group_udp.specs.Refusals.{IsCycleRefusal}
 
 -- A node that leads without a gap: each vote of its record is at a place below its known front.
 abbrev pub LeadsWithoutGap : Known → Type 0
@@ -70,4 +70,4 @@ HasPressedKeyboard kind old new from to (Ok (CampaignRefused f)) =
     (from.keys ≡ with_gift (Campaign ∷ []) to.keys)
     × HasCampaignedAsAsked kind old new from.traffic to.traffic (Ok (CampaignRefused f))
 HasPressedKeyboard kind old new from to (Err e) =
-    IsRoundRefusal e × HasEnded [] old new from to 0 e
+    IsCycleRefusal e × HasEnded [] old new from to 0 e

@@ -33,7 +33,7 @@ pub record LosesOutput {S : Type 0} (seen : ℕ) (old new : NodeMoment S) : Type
       (seen - old.node.progress.released) gone)
   pub protocol : new.node.protocol ≡ old.node.protocol
 
--- A release of all output, which a failed write ends.
+-- A release of all output, which only a failed write ends early.
 abbrev pub HasReleased : {S : Type 0} → ℕ → NodeMoment S → NodeMoment S
     → Result (Unit {0}) GroupFault → Type 0
 HasReleased seen old new (Ok x) = WritesAll seen old new

@@ -10,9 +10,9 @@ use Rattle.pcode_file.specs.Parts.{Parts}
 use Rattle.group_protocol.specs.declared.fault.NodeFault.TheVariants.{SerialSpent, Store}
 use Rattle.group_protocol.specs.declared.start.StartRefused.{StartRefused}
 use Rattle.group_node.specs.Deeds.{Deed}
-use Rattle.group_node.specs.Output.{IsReplay}
+use Rattle.group_node.specs.Output.{IsReplay, unreleased_of}
 use Rattle.group_node.specs.States.{input}
-use Rattle.group_wire.specs.Doings.{Working}
+use Rattle.group_node.specs.NodeCalls.{Running}
 use Rattle.group_wire.specs.Process.{RunsAsProcess}
 use Rattle.group_wire.specs.Starts.{HasStarted}
 use Rattle.group_udp.specs.declared.fault.GroupFault.{GroupFault}
@@ -21,14 +21,14 @@ use Rattle.node_run.specs.declared.node.NodePlan.{NodePlan}
 use Rattle.node_run.specs.Going.{Around, HasReason, planned}
 use Rattle.node_run.specs.Output.{shown_of}
 use Rattle.group_udp.specs.Prompts.{IsPrompted, with_gift}
-use Rattle.group_udp.specs.Refusals.{IsCampaignRefusal, IsWrittenRoundRefusal, write_failed}
+use Rattle.group_udp.specs.Refusals.{IsCampaignRefusal, IsWrittenCycleRefusal, write_failed}
 
 -- What was written in the run of a node: the bytes that it has released, from number `seen` on,
 -- each once and in order. If a write failed, the last of them is lost. They are output of the
 -- program on what the node has learned.
 -- Allows: nothing, if nothing was released or all was seen.
 -- Forbids: a byte left out, or written twice; a byte that was not released.
-pub record WritesReleased (seen : ℕ) (last : Working) (fails : Type 0) (from to : Option (List ℕ))
+pub record WritesReleased (seen : ℕ) (last : Running) (fails : Type 0) (from to : Option (List ℕ))
     : Type 0 where
   pub replay : IsReplay (input last.known) last.progress
   pub wrote : List ℕ
@@ -41,12 +41,14 @@ pub record WritesReleased (seen : ℕ) (last : Working) (fails : Type 0) (from t
 -- A run of a node that has started, as a process of its group over one load of its store. All that
 -- passes over its wire is what passes in its deeds. It campaigns first if its plan says so. Then it
 -- is prompted by its keyboard, and takes as many turns as the plan has, or fewer if it is refused.
--- It ends at its first failed save.
+-- After all turns no output waits. It ends at its first failed save.
+-- Allows: turns at which nothing is heard, as nothing has come.
+-- Forbids: output that is not released.
 pub record RunsNode {S : Type 0} (loads : S → Result Record StoreFault → S → Type 0) (me : Me)
     (program : Parts) (store : S) (plan : NodePlan) (from to : Around)
     (before after : Option (List ℕ))
     (result : Result (Unit {0}) GroupFault) : Type 0 where
-  pub last : Working
+  pub last : Running
   pub first : List Deed
   pub prompts : List Deed
   pub runs : RunsAsProcess loads me program store last from.traffic to.traffic (first ++ prompts)
@@ -58,9 +60,10 @@ pub record RunsNode {S : Type 0} (loads : S → Result Record StoreFault → S �
   pub follows : IsPrompted gift turns (IsErrOf result (group.Node SerialSpent)) prompts
   pub few : turns ≤ plan.turns
   pub all : OnOk result (turns ≡ plan.turns)
-  pub ends : IfErr result (λ e. IsWrittenRoundRefusal e ⊎ IsCampaignRefusal e)
+  pub ends : IfErr result (λ e. IsWrittenCycleRefusal e ⊎ IsCampaignRefusal e)
   pub due : IfErr result (λ e. HasReason e last.known)
   pub writes : WritesReleased plan.seen last (IsErrOf result write_failed) before after
+  pub none_waits : OnOk result (unreleased_of (input last.known) last.progress ≡ [])
 
 -- A run of a node over a store, a wire and a keyboard. Its start is refused; then nothing passes,
 -- nothing is typed, and nothing is written. Or it starts, and runs.

@@ -1,11 +1,11 @@
 //! The cycles of one node: each is a rest, typing, a turn, and the release of all output.
 ghost use Rattle.std.specs.Prelude.{◌≡◌, [], false, ◌⊎◌, IfErr, IsErrOf, OnOk};
-ghost use Rattle.group_node.specs.States.{input};
-ghost use Rattle.group_node.specs.Output.{unreleased_of};
+ghost use Rattle.pcode_file.specs.Parts.{Parts};
+ghost use Rattle.group_node.specs.Output.{no_progress};
 ghost use Rattle.group_wire.specs.Turns.{SameReleased};
-ghost use Rattle.node_run.specs.Going.{CampaignsIf, HasGone, around, planned};
-ghost use Rattle.node_run.specs.Output.{AppendsOutput, SameProgram};
-ghost use Rattle.group_udp.specs.Refusals.{IsCampaignRefusal, IsRoundRefusal, IsWrittenRoundRefusal, write_failed};
+ghost use Rattle.node_run.specs.Going.{CampaignsIf, HasGone, around_of, planned};
+ghost use Rattle.node_run.specs.Output.{AppendsOutput, NoneWaits, SameProgram};
+ghost use Rattle.group_udp.specs.Refusals.{IsCampaignRefusal, IsCycleRefusal, IsWrittenCycleRefusal, write_failed};
 
 use crate::endpoints::{Endpoints, note_pressed};
 use crate::node::NodePlan;
@@ -26,7 +26,7 @@ use std::time::Clock;
 fn note_wire<H: Clock, T: RestingWire, E: Write>(wire: &mut T, log: &mut Log<'_, H, E>)
     ensures passed { T.traffic wire.new ≡ T.traffic wire.old }
 {
-    if wire.has_lost_trace() {
+    if wire.take_trace_loss() {
         log.note(&Note::TraceLost);
     }
     if log.counted(&wire.drops(), &wire.sends()) {
@@ -45,11 +45,11 @@ fn rest_and_turn<H: Clock, T: RestingWire, K: Keyboard, S: Store, E: Write>(
     requires works { host.old.protocol.is_stopped ≡ false }
     ensures works { OnOk result (host.new.protocol.is_stopped ≡ false) }
     ensures goes { HasGone [] host.old host.new
-        (around (T.traffic endpoints.old.wire) (K.remaining endpoints.old.keyboard))
-        (around (T.traffic endpoints.new.wire) (K.remaining endpoints.new.keyboard)) 1 result }
+        (around_of T.traffic K.remaining endpoints.old)
+        (around_of T.traffic K.remaining endpoints.new) 1 result }
     ensures program { SameProgram host.old host.new }
     ensures stays { SameReleased host.old host.new }
-    ensures others { IfErr result IsRoundRefusal }
+    ensures others { IfErr result IsCycleRefusal }
 {
     deeds_go_on::<S>();
     rest_unless_busy(host, endpoints, is_busy)?;
@@ -76,14 +76,13 @@ fn cycle<H: Clock, T: RestingWire, K: Keyboard, S: Store, W: ByteWriter, E: Writ
     requires works { host.old.protocol.is_stopped ≡ false }
     ensures works { OnOk result (host.new.protocol.is_stopped ≡ false) }
     ensures goes { HasGone [] host.old host.new
-        (around (T.traffic endpoints.old.wire) (K.remaining endpoints.old.keyboard))
-        (around (T.traffic endpoints.new.wire) (K.remaining endpoints.new.keyboard)) 1 result }
+        (around_of T.traffic K.remaining endpoints.old)
+        (around_of T.traffic K.remaining endpoints.new) 1 result }
     ensures program { SameProgram host.old host.new }
     ensures writes { AppendsOutput seen host.old host.new (IsErrOf result write_failed)
         (W.contents writer.old) (W.contents writer.new) }
-    ensures none_waits { OnOk result
-        (unreleased_of (input host.new.protocol.known) host.new.progress ≡ []) }
-    ensures others { IfErr result IsWrittenRoundRefusal }
+    ensures none_waits { OnOk result (NoneWaits host.new) }
+    ensures others { IfErr result IsWrittenCycleRefusal }
 {
     deeds_go_on::<S>();
     let more = rest_and_turn(host, endpoints, is_busy, log)?;
@@ -95,7 +94,8 @@ fn cycle<H: Clock, T: RestingWire, K: Keyboard, S: Store, W: ByteWriter, E: Writ
 
 /// Makes as many cycles as the plan has turns, up to the first refusal: a failed save, spent
 /// serials, or a failed write. Over all cycles the bytes that were released are written, each once
-/// and in order, but for those that were seen. If a write fails, the last one is lost.
+/// and in order, but for those that were seen. If a write fails, the last one is lost. At `Ok` no
+/// output waits, if none waited before.
 fn play<H: Clock, T: RestingWire, K: Keyboard, S: Store, W: ByteWriter, E: Write>(
     host: &mut Host<'_, S>,
     plan: &NodePlan<'_>,
@@ -105,13 +105,13 @@ fn play<H: Clock, T: RestingWire, K: Keyboard, S: Store, W: ByteWriter, E: Write
 ) -> Result<(), GroupFault>
     requires works { host.old.protocol.is_stopped ≡ false }
     ensures goes { HasGone [] host.old host.new
-        (around (T.traffic endpoints.old.wire) (K.remaining endpoints.old.keyboard))
-        (around (T.traffic endpoints.new.wire) (K.remaining endpoints.new.keyboard)) plan.now.turns
-        result }
+        (around_of T.traffic K.remaining endpoints.old)
+        (around_of T.traffic K.remaining endpoints.new) plan.now.turns result }
     ensures program { SameProgram host.old host.new }
     ensures writes { AppendsOutput plan.now.seen host.old host.new (IsErrOf result write_failed)
         (W.contents writer.old) (W.contents writer.new) }
-    ensures others { IfErr result IsWrittenRoundRefusal }
+    ensures none_waits { NoneWaits host.old → OnOk result (NoneWaits host.new) }
+    ensures others { IfErr result IsWrittenCycleRefusal }
 {
     deeds_go_on::<S>();
     let mut is_busy = true;
@@ -153,14 +153,15 @@ pub fn campaign_and_play<H: Clock, T: RestingWire, K: Keyboard, S: Store, W: Byt
 ) -> Result<(), GroupFault>
     requires works { host.old.protocol.is_stopped ≡ false }
     ensures goes { HasGone (planned plan.now.campaigns) host.old host.new
-        (around (T.traffic endpoints.old.wire) (K.remaining endpoints.old.keyboard))
-        (around (T.traffic endpoints.new.wire) (K.remaining endpoints.new.keyboard)) plan.now.turns
-        result }
+        (around_of T.traffic K.remaining endpoints.old)
+        (around_of T.traffic K.remaining endpoints.new) plan.now.turns result }
     ensures program { SameProgram host.old host.new }
     ensures writes { AppendsOutput plan.now.seen host.old host.new (IsErrOf result write_failed)
         (W.contents writer.old) (W.contents writer.new) }
+    ensures none_waits { (p : Parts) → host.old.progress ≡ no_progress p
+        → OnOk result (NoneWaits host.new) }
     ensures others { IfErr result
-        (λ e. IsWrittenRoundRefusal e ⊎ IsCampaignRefusal e) }
+        (λ e. IsWrittenCycleRefusal e ⊎ IsCampaignRefusal e) }
 {
     deeds_go_on::<S>();
     campaign_if(host, &mut endpoints.wire, plan.campaigns)?;

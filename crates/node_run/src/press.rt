@@ -1,7 +1,7 @@
 //! What a node does with what its keyboard gives.
 ghost use Rattle.std.specs.Prelude.{◌≡◌, ◌<◌, ◌↔◌, false, IsTrue, OnOk};
 ghost use Rattle.group_wire.specs.Turns.{SameReleased};
-ghost use Rattle.node_run.specs.Going.{around};
+ghost use Rattle.node_run.specs.Going.{around_of};
 ghost use Rattle.node_run.specs.Pressing.{HasCampaignedAsAsked, HasPressedKeyboard, HasTypedGiven, LeadsWithoutGap};
 
 use crate::endpoints::Endpoints;
@@ -108,13 +108,13 @@ pub fn press<T: Wire, K: Keyboard, S: Store>(
     requires works { host.old.protocol.is_stopped ≡ false }
     ensures works { OnOk result (host.new.protocol.is_stopped ≡ false) }
     ensures pressed { HasPressedKeyboard S.kind host.old host.new
-        (around (T.traffic endpoints.old.wire) (K.remaining endpoints.old.keyboard))
-        (around (T.traffic endpoints.new.wire) (K.remaining endpoints.new.keyboard)) result }
+        (around_of T.traffic K.remaining endpoints.old)
+        (around_of T.traffic K.remaining endpoints.new) result }
     ensures stays { SameReleased host.old host.new }
     ensures progress { host.new.progress ≡ host.old.progress }
 {
     endpoints.keyboard.look();
-    if endpoints.keyboard.is_asked() {
+    if endpoints.keyboard.take_request() {
         return campaign_when_asked(host, &mut endpoints.wire);
     }
     type_given(host, endpoints)?;

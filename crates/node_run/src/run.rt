@@ -1,7 +1,7 @@
 //! A whole run of one node: over any store, wire and keyboard, and over those of the system.
 ghost use Rattle.std.specs.Prelude.{◌≡◌, ◌⊎◌, IfErr, None, Some};
 ghost use Rattle.node_run.specs.Ends.{RunsOpened, RunsOverFile, RunsWith};
-ghost use Rattle.node_run.specs.Going.{around};
+ghost use Rattle.node_run.specs.Going.{around_of};
 ghost use Rattle.group_udp.specs.Refusals.{IsOpenRefusal, IsRunRefusal};
 ghost use Rattle.node_run.specs.Runs.{RunsOrRefuses};
 
@@ -42,7 +42,8 @@ fn tell_end<T: Wire>(wire: &mut T, done: Result<(), GroupFault>) -> Result<(), G
 /// passes over the wire.
 ///
 /// What is typed is what the keyboard gave, each byte once and in order. `writer` gets each byte
-/// that the node has released, from number `seen` on, once and in order, and nothing else.
+/// that the node has released, from number `seen` on, once and in order, but for one that a failed
+/// write lost, and nothing else. At `Ok` all output of the machine is released.
 ///
 /// A start that is refused ends it, and nothing passes, nothing is typed, and nothing is written.
 /// Else it ends at the first failed save or write, if the plan's campaign is refused, or where a
@@ -58,8 +59,8 @@ pub fn run_node<H: Clock, T: RestingWire, K: Keyboard, S: Store + Drop, W: ByteW
     log: &mut Log<'_, H, E>,
 ) -> Result<(), GroupFault>
     ensures ends { RunsOrRefuses S.kind config program.now store plan.now
-        (around (T.traffic endpoints.old.wire) (K.remaining endpoints.old.keyboard))
-        (around (T.traffic endpoints.new.wire) (K.remaining endpoints.new.keyboard))
+        (around_of T.traffic K.remaining endpoints.old)
+        (around_of T.traffic K.remaining endpoints.new)
         (W.contents writer.old) (W.contents writer.new) result }
     ensures others { IfErr result IsRunRefusal }
 {

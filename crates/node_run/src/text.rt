@@ -26,7 +26,7 @@ impl Keyboard for Text<'_> {
         !self.rest.is_empty()
     }
 
-    fn is_asked(&mut self) -> bool {
+    fn take_request(&mut self) -> bool {
         false
     }
 

@@ -36,6 +36,12 @@ pub fn learning_keeps_the_output()
     run_is_after();
 }
 
+/// No replay has released a byte that its machine has not written.
+pub fn replays_release_what_is_written()
+    ensures none_before { (p : Parts) (x : List ℕ)
+        → ¬ IsReplay x (record (no_progress p) { released = 1 }) }
+{}
+
 /// A run, and the release of a byte to the console, are deeds that the group allows, if the machine
 /// is where a replay on the learned input is. A run makes at most as many steps as it may.
 pub fn output_is_a_deed()

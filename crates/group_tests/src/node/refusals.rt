@@ -80,7 +80,7 @@ fn outbox_is_ready_after_a_pop(rt: HostRuntime) -> Result<(), Fail> {
     assert_answers(rt.alloc(), &READS, &lines)
 }
 
-/// Shows Node::typed (ok, known, busy), Node::waiting (count): 256 keys wait, and the next is
+/// Shows Node::typed (ok, known, refuses), Node::waiting (count): 256 keys wait, and the next is
 /// `Busy`.
 #[test]
 fn most_keys_wait(rt: HostRuntime) -> Result<(), Fail> {

@@ -13,15 +13,19 @@ loop-line-preserved g c =
           c.loop-line.invariant.done (rw (v, c.loop-line.invariant.size) at c.in_default.ensures.says);
     }
 
-pub returns-clause-done : goal.returns-clause-done
-returns-clause-done g c = λ _.
+pub returns-clause-performs : goal.returns-clause-performs
+returns-clause-performs g c =
     let all : c.loop-line.line-index ≡ length c.args.script.now.lines.items = rw (← c.deref-line-items.ensures.value) (omega arith) in
-    record { end = _; done = rw all at c.loop-line.invariant.done; written = refl }
+    record { done = λ _. record { end = _; done = rw all at c.loop-line.invariant.done; written = refl }; stopped = tt; unwritten = tt }
 
 pub returns-in-Err-perform : goal.returns-in-Err-perform
 returns-in-Err-perform g c =
     let v = c.deref-line-items.ensures.value in
     let halted = line_halts _ _ _ c.loop-line.number _ _ _ c.in-Err-perform.halt _ c.loop-line.invariant.number
     (rw v at c.loop-line-test.true) c.loop-line.invariant.done (rw (v, c.loop-line.invariant.size) at c.in-Err-perform.ensures.says) in
-    let (stopped, unwritten) = answers _ _ _ c.stopped_at-in-Err-perform.ensures halted in
-    record { line = search rules; write = search rules; done = search rules; stopped = stopped; unwritten = unwritten; size = search rules }
+    record {
+      line = search rules;
+      write = search rules;
+      performs = answers _ _ _ c.stopped_at-in-Err-perform.ensures halted;
+      size = search rules;
+    }

@@ -1,7 +1,7 @@
-use Rattle.std.proofs.Common.{arith}
+use Rattle.std.proofs.Common.{◌∙◌, arith}
 use Rattle.std.proofs.lemmas.Result.{err_from_is_err_and}
 use Rattle.node_run.proofs.Going.{begun_by, campaign_refused}
-use Rattle.node_run.proofs.Writing.{wrote_none}
+use Rattle.node_run.proofs.Writing.{none_at_start, wrote_none}
 use Rattle.node_run.proofs.cycles.campaign_and_play.Goals as goal
 
 pub returns-in_err-campaign_if-clause-writes : goal.returns-in_err-campaign_if-clause-writes
@@ -17,3 +17,7 @@ returns-in_err-campaign_if-clause-goes g c =
 pub returns-clause-goes : goal.returns-clause-goes
 returns-clause-goes g c = begun_by c.deeds_go_on.ensures _ _ _ c.args.plan.now.turns c.play.result
     c.in_ok-campaign_if.ensures.acts c.play.ensures.goes
+
+pub returns-clause-none_waits : goal.returns-clause-none_waits
+returns-clause-none_waits g c p begins =
+    c.play.ensures.none_waits (none_at_start c.campaign_if.new.host p (c.in_ok-campaign_if.ensures.progress ∙ begins))

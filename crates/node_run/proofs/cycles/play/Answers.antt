@@ -16,6 +16,7 @@ loop-init g c = record {
   works = c.requires.works;
   program = refl;
   wrote = wrote_none c.args.plan.now.seen c.args.host.now c.args.host.now _ _ (λ f. absurd cc) refl;
+  none_waits = λ none. none;
 }
 
 pub loop-preserved : goal.loop-preserved
@@ -25,6 +26,7 @@ loop-preserved g c = record {
   program = cc;
   wrote = wrote_then c.args.plan.now.seen c.args.host.now c.loop.host c.cycle.new.host _ _ _ _ _ _ (λ f. absurd cc)
       (grind arith) c.loop.invariant.wrote c.in_ok-is_busy.ensures.writes;
+  none_waits = λ none. c.in_ok-is_busy.ensures.none_waits;
 }
 
 pub returns-in_err-is_busy-clause-goes : goal.returns-in_err-is_busy-clause-goes

@@ -1,6 +1,6 @@
 use Rattle.std.proofs.Common.{◌≡◌, [], false, Ok, IsErrOf}
-use Rattle.node_run.specs.Going.{HasGoneOn, around}
-use Rattle.node_run.specs.Output.{AppendsOutput}
+use Rattle.node_run.specs.Going.{HasGoneOn, around_of}
+use Rattle.node_run.specs.Output.{AppendsOutput, NoneWaits}
 use Rattle.group_udp.specs.Refusals.{write_failed}
 use Rattle.node_run.proofs.cycles.play.Given as goal
 
@@ -9,10 +9,11 @@ use Rattle.node_run.proofs.cycles.play.Given as goal
 abbrev pub invariant-loop : goal.invariant-loop
 invariant-loop g l = record {
   goes : HasGoneOn [] l.fn.host l.host
-      (around (g.T.Wire.traffic l.fn.endpoints.wire) (g.K.Keyboard.remaining l.fn.endpoints.keyboard))
-      (around (g.T.Wire.traffic l.endpoints.wire) (g.K.Keyboard.remaining l.endpoints.keyboard)) l.counter;
+      (around_of g.T.Wire.traffic g.K.Keyboard.remaining l.fn.endpoints)
+      (around_of g.T.Wire.traffic g.K.Keyboard.remaining l.endpoints) l.counter;
   works : l.host.protocol.is_stopped ≡ false;
   program : l.host.progress.program ≡ l.fn.host.progress.program;
   wrote : AppendsOutput l.plan.seen l.fn.host l.host (IsErrOf {T = Unit {0}} (Ok tt) write_failed) (g.W.ByteWriter.contents l.fn.writer)
       (g.W.ByteWriter.contents l.writer);
+  none_waits : NoneWaits l.fn.host → NoneWaits l.host;
 }

@@ -1,7 +1,7 @@
 use Rattle.std.proofs.Common.{◌∙◌, [], ap, refl, arith}
 use Rattle.std.proofs.lemmas.Result.{IfOk-weaker}
 use Rattle.group_world.specs.Group.{World, me_of}
-use Rattle.group_world.specs.Member.{call_of_start}
+use Rattle.group_node.specs.NodeCalls.{call_of_start}
 use Rattle.group_world.proofs.GroupCalls.{call_so, does_so, lent_is, none_more}
 use Rattle.group_world.proofs.group.GroupState.start.Goals as goal
 

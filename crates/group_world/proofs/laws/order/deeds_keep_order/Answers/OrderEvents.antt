@@ -23,7 +23,8 @@ use Rattle.group_protocol.specs.WaitingKeys.{batch_of, waiting_keys}
 use Rattle.group_node.specs.Output.{Progress, no_progress}
 use Rattle.group_protocol.specs.Packets.{Datagram, Packet, datagrams_of}
 use Rattle.group_world.specs.Group.{IsUp, me_of, member_at, message_of, messages_in, with_member, World, world_state}
-use Rattle.group_world.specs.Member.{Member, member_after_call, Running, at_progress, failing, Makes, member_after_release, save_outcome}
+use Rattle.group_node.specs.NodeCalls.{Running, Makes}
+use Rattle.group_world.specs.Member.{Member, member_after_call, at_progress, failing, member_after_release, save_outcome}
 use Rattle.group_world.specs.Ordered.{IsDue, IsOrdered, AreTypedKeys, IsRowOf, AreTypedInOrder}
 use Rattle.group_world.specs.Sound.{IsSound, IsSpelling}
 use Rattle.group_world.proofs.laws.order.deeds_keep_order.Answers.OrderNodes.{Goes, read_of, campaign_goes, message_goes, tick_goes, AreAsked, Laws, none_asked, submit_found}

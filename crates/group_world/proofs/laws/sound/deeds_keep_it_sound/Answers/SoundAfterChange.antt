@@ -10,7 +10,8 @@ use Rattle.group_protocol.specs.Known.{Response}
 use Rattle.group_node.specs.Output.{Progress, IsReplay}
 use Rattle.group_world.specs.Group.{member_at, with_member, World, world_state, IsUp, me_of}
 use Rattle.group_world.proofs.CallLeaves.{world_after_call, world_after_fall}
-use Rattle.group_world.specs.Member.{Member, at_progress, member_after_release, Running, member_after_call}
+use Rattle.group_node.specs.NodeCalls.{Running}
+use Rattle.group_world.specs.Member.{Member, at_progress, member_after_release, member_after_call}
 use Rattle.group_world.specs.Sound.{IsSound, IsShown, IsMemberSound, IsSpelling, IsRunningSound, IsLearnedChosen}
 use Rattle.group_world.proofs.WorldAsGroup.{SoundAt, changed_elsewhere, changed_here, each_changed, running, is_node, packets_read, sent_called}
 use Rattle.std.proofs.lemmas.Option.{slice_get_within, IfSome_then}

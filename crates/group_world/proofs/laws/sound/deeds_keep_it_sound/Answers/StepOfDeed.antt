@@ -2,7 +2,7 @@
 use Rattle.std.proofs.Common.{Contains, ◌≡◌, ◌∙◌, ℕ, ◌<◌, ◌++◌, List, [], flat_map, slice_get, Some, refl, sym, ap, subst, append-nil, arith, ◌≢◌, Bool, if◌then◌else◌, Option, None, ◌+◌, ◌-◌, ◌≤◌}
 use Rattle.group_protocol.specs.Known.{Response, on_start}
 use Rattle.group_world.proofs.CallCases.{campaign_cases, press_cases, start_cases}
-use Rattle.group_world.proofs.AskEnds.{tick_rests}
+use Rattle.group_world.proofs.SendingCalls.{tick_rests}
 use Rattle.std.proofs.lemmas.Bool.Decides.{nat_tests}
 use Rattle.group_world.proofs.OrderLists.{of_filter_map}
 use Rattle.std.proofs.lemmas.Option.{same_Some}
@@ -18,7 +18,8 @@ use Rattle.group_node.specs.Output.{no_progress, Progress, IsReplay, RunsOn}
 use Rattle.group_protocol.specs.Ranges.{IsFit, IsHeardFit, IsMember}
 use Rattle.group_protocol.specs.Steps.{IsLawfulCall}
 use Rattle.group_world.specs.Group.{IsDown, IsUp, me_of, message_of, messages_in, World, world_state, seat_of_member, up_of, with_member, member_at, new_world}
-use Rattle.group_world.specs.Member.{Member, Running, NodeCall, Makes, Refuses, call_of_campaign, call_of_press, call_of_start, failing, save_outcome, at_progress, member_after_release}
+use Rattle.group_node.specs.NodeCalls.{Running, NodeCall, Makes, Refuses, call_of_campaign, call_of_press, call_of_start}
+use Rattle.group_world.specs.Member.{Member, failing, save_outcome, at_progress, member_after_release}
 use Rattle.group_world.specs.Sound.{IsSound, IsSpelling}
 use Rattle.std.specs.FinMap.{empty}
 use Rattle.group_world.proofs.WorldAsGroup.{RunsAt, is_node, running, called_state, member_state, changed_elsewhere, changed_here, SoundAt, first_node, stopped}

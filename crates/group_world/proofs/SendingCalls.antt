@@ -15,11 +15,12 @@ use Rattle.group_protocol.specs.Packets.{Datagram}
 use Rattle.group_protocol.specs.Protocol.{on_message}
 use Rattle.group_node.specs.States.{NodeState}
 use Rattle.group_world.specs.declared.event.Done.{Done}
-use Rattle.group_world.specs.declared.member.Ask.{Ask}
-use Rattle.group_world.specs.declared.member.Ask.TheVariants.{Campaign, Hear, Tick}
+use Rattle.group_world.specs.declared.member.SendingCall.{SendingCall}
+use Rattle.group_world.specs.declared.member.SendingCall.TheVariants.{Campaign, Hear, Tick}
 use Rattle.group_world.specs.declared.member.UpOrDown.{UpOrDown}
 use Rattle.group_world.specs.declared.member.UpOrDown.TheVariants as member
-use Rattle.group_world.specs.Member.{NodeCall, CallEnds, IsDone, IsOpen, IsSettled, Makes, Member, Refuses, Running, call_of_ask, call_outcome, member_of, running, store_of}
+use Rattle.group_node.specs.NodeCalls.{NodeCall, Makes, Refuses, Running, running}
+use Rattle.group_world.specs.Member.{CallEnds, IsDone, IsOpen, IsSettled, Member, call_of_sending, call_outcome, member_of, store_of}
 
 abbrev pub Answer : Type 0
 Answer = Result (Unit {0}) NodeFault
@@ -86,24 +87,25 @@ tick_rests n = grind (arith, nat_tests)
 -- What holds after a call with the plan of the node `m` of the group, which is `new`
 -- now. It is open unless its save failed; the call ends as it should, however it is settled;
 -- and nothing has changed if memory ran out.
-pub record IsAnswered (plan : Option Bool) (new : UpOrDown) (console : List ℕ) (m : Member) (ask : Ask)
+pub record IsAnswered (plan : Option Bool) (new : UpOrDown) (console : List ℕ) (m : Member) (call : SendingCall)
     (now : List Datagram) (answer : Answer) : Type 0 where
   pub works : ¬ IsErrOf answer fault.Store → IsSettled new
   pub ends : (s : UpOrDown) (d : Done) → (IsErrOf answer fault.Store → s ≡ member.Down (store_of new))
       → (¬ IsErrOf answer fault.Store → s ≡ new) → IsDone answer d → (q : Running) → m.node ≡ Some q
-      → CallEnds q.known.me m q.progress (call_outcome plan m.kept (call_of_ask q.known ask)) d (member_of s console) now []
+      → CallEnds q.known.me m q.progress (call_outcome plan m.kept (call_of_sending q.known call)) d (member_of s console) now []
   pub same : (s : UpOrDown) → (¬ IsErrOf answer fault.Store → s ≡ new) → answer ≡ Err fault.Memory
       → (member_of s console ≡ m) × (now ≡ [])
 
 module _ {plan : Option Bool} {old new : NodeState StoreState} {console : List ℕ} {m : Member} {before now : List Datagram}
     (h : IsReady plan old console m) (empty : before ≡ []) (progress : new.progress ≡ old.progress)
     {answer : Answer} (let_in : RefusesUnlessLet old.protocol before answer) where
-  answered : (ask : Ask) (made : Response) → Said old new made now answer → IsCall (call_of_ask old.protocol.known ask) made answer
-      → IsAnswered plan (member.Up new) console m ask now answer
-  answered ask made said is = record {
+  answered : (call : SendingCall) (made : Response) → Said old new made now answer
+      → IsCall (call_of_sending old.protocol.known call) made answer
+      → IsAnswered plan (member.Up new) console m call now answer
+  answered call made said is = record {
     works = λ fine. grind (arith, nat_tests, said.saved, said.unsaved, said.does, h.opens);
     ends = λ s d fell stays done q up.
-        as_member (λ q m. CallEnds q.known.me m q.progress (call_outcome plan m.kept (call_of_ask q.known ask)) d
+        as_member (λ q m. CallEnds q.known.me m q.progress (call_outcome plan m.kept (call_of_sending q.known call)) d
         (member_of s console) now []) old console h.is up (grind (arith, nat_tests));
     same = λ s stays memory. grind (arith, nat_tests);
   }

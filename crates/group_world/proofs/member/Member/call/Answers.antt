@@ -1,8 +1,8 @@
 use Rattle.std.proofs.Common.{arith}
-use Rattle.group_world.proofs.AskEnds.{IsAnswered, campaign_answered, heard, ready, tick_answered}
+use Rattle.group_world.proofs.SendingCalls.{IsAnswered, campaign_answered, heard, ready, tick_answered}
 use Rattle.group_world.proofs.MemberCalls.{up_not_down}
-use Rattle.group_world.proofs.member.Member.ask.Goals as goal
-use Rattle.group_world.proofs.member.Member.ask.Goals.{in-Hear, in-Campaign, in-Tick}
+use Rattle.group_world.proofs.member.Member.call.Goals as goal
+use Rattle.group_world.proofs.member.Member.call.Goals.{in-Hear, in-Campaign, in-Tick}
 
 pub on_message-answer-requires : goal.on_message-answer-requires
 on_message-answer-requires c =
@@ -16,13 +16,13 @@ unreachable-unreachable c = absurd c.unreachable.result
 
 -- the call that the node has answered, by which it is
 answered : (c : goal.After-settle)
-    → IsAnswered c.args.plan c.match-ask.self-inside.up_or_down c.match-ask.self-inside.console.bytes c.args.self.now c.args.ask.now
-    c.match-ask.outbox.packets c.match-ask.answer
+    → IsAnswered c.args.plan c.match-call.self-inside.up_or_down c.match-call.self-inside.console.bytes c.args.self.now c.args.call.now
+    c.match-call.outbox.packets c.match-call.answer
 answered c =
     let f = c.fail_next.ensures in
     let is_ready = ready {n = c.fail_next.new.self} (rw c.in-Up.is at c.self.view_is) (rw c.in-Up.is at c.self.invariant)
     (f.same tt) (f.plan tt) f.rest in
-    elim c.match-ask.branch [
+    elim c.match-call.branch [
       | in-Hear w ↦
           let h = w.on_message-answer.ensures in
           let s = h.responds.sends in
