@@ -9,9 +9,9 @@ import re
 import shutil
 import subprocess
 
-from parts.checks import Checks
-from parts.files import bytes_of, file_with
-from parts.program import TOP, ran
+from ..checks import Checks
+from ..files import bytes_of, file_with
+from ..program import TOP, ran
 
 KIT = "kit-of-a-stand-in logic 1"
 # How long a script of the copy may take.

@@ -4,13 +4,14 @@ scripts are made small for a condition that was made up."""
 import functools
 import random
 
-from parts.checks import expect
 from shared.script import SETTLE, Event
 from shared.shown import NodeLine, Shown
-from storm_checks import Case, finding_of
-from storm_make import Storm
-from storm_play import End, Learned, Play, play_again
-from storm_small import Small, least_of
+
+from ..checks import expect
+from .checks import Case, finding_of
+from .make import Storm
+from .play import End, Learned, Play, play_again
+from .small import Small, least_of
 
 # Of a group of three: h and jk were typed at node 2, and i at node 3. The h was chosen twice.
 TYPED = {(2, 1, 1): ord("h"), (2, 1, 2): ord("j"), (2, 1, 3): ord("k"), (3, 1, 1): ord("i")}

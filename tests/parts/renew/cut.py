@@ -9,7 +9,7 @@ import sys
 import tempfile
 import traceback
 
-from parts.scripts import path_of
+from ..scripts import path_of
 
 
 class Cut:

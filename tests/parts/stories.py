@@ -6,12 +6,13 @@ prints on the keys that a node has learned."""
 import collections
 import random
 
-from parts.echo_code import ECHO
-from parts.files import number
-from parts.group import output_of
 from shared.group import Group, GroupRefused
 from shared.protocol import ALL, keys_in
 from shared.script import Event, text_of_script
+
+from .echo_code import ECHO
+from .files import number
+from .group import output_of
 
 # How a story goes: the share of deliveries that are lost and that come twice, of events that a save
 # fails in, and of turns in which a node is killed.

@@ -1,4 +1,4 @@
-"""Reads the calls that tests/disk_calls.c has written down, and refuses them where a record is not kept as docs/FORMATS.md says.
+"""Reads the calls that tests/parts/disk/calls.c has written down, and refuses them where a record is not kept as docs/FORMATS.md says.
 
 A model of the disk makes the calls again. It knows what was synced, so it also knows what a cut of the power may leave after each call: the
 file that had the name when the folder was synced last, or one that got the name since, and of each what was synced and the first bytes of
@@ -8,12 +8,11 @@ import collections
 import errno
 import functools
 import os
-import sys
 
-sys.dont_write_bytecode = True  # no files of the tool's own in the repository
-from parts import readers
-from parts.program import Broken
 from shared.record import Damaged, record_of
+
+from .. import readers
+from ..program import Broken
 
 # A line of the trace. `number` is None for what is sent or shown, `done` is None where the call was not made.
 Call = collections.namedtuple("Call", "number name words told done")

@@ -5,20 +5,19 @@ import os
 import select
 import socket
 import subprocess
-import sys
 import time
 
-sys.dont_write_bytecode = True  # no files of the tool's own in the repository
-import disk_trace
-from disk_trace import replay
-from parts import readers
-from parts.files import bytes_of
-from parts.group import await_that
-from parts.program import PROGRAM, Broken
-from parts.readers import Message
 from shared.nodes import TURNS, command_of
 from shared.record import Ballot, Batch, Record, record_of
 from shared.words import text_of
+
+from .. import readers
+from ..files import bytes_of
+from ..group import await_that
+from ..program import PROGRAM, Broken
+from ..readers import Message
+from . import traces
+from .traces import replay
 
 SESSION = 7
 # The longest that a run waits for what has to come, in seconds.
@@ -225,7 +224,7 @@ class Bench:
         return bytes_of(self.record) if os.path.lexists(self.record) else None
 
     def ran(self, status):
-        calls = disk_trace.calls_in(self.at("trace"))
+        calls = traces.calls_in(self.at("trace"))
         return Ran(status, bytes_of(self.at("stdout")), bytes_of(self.at("stderr")), calls, self.data())
 
     def run(self, case, plan=""):

@@ -1,8 +1,9 @@
 """Makes a script of tests/storm small: leaves out what is not needed for what was found."""
 
 from shared.group import GroupRefused
-from storm_end import end_play
-from storm_play import play_again
+
+from .end import end_play
+from .play import play_again
 
 MOST_TRIES = 3000
 

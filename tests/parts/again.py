@@ -1,20 +1,19 @@
-"""Runs the built program many times, each run in a process of its own: for tests/memory and tests/damage. tests/limits shares its helpers.
+"""Runs the built program many times, each run in a process of its own: for tests/memory and tests/damage. tests/limits, tests/disk and
+tests/power share its helpers.
 
-If there is a C compiler, tests/again.c loads the program once and forks for each run. This takes half the time, and can refuse requests for
-memory. Otherwise each run starts the program anew."""
+If there is a C compiler, tests/parts/again.c loads the program once and forks for each run. This takes half the time, and can refuse
+requests for memory. Otherwise each run starts the program anew."""
 
 import collections
 import os
 import shutil
 import subprocess
-import sys
 import tempfile
 
-sys.dont_write_bytecode = True  # no files of the tool's own in the repository
-from parts.checks import main_of_checks
-from parts.program import PROGRAM, TESTS, Broken, end_on_signals
+from .checks import main_of_checks
+from .program import PROGRAM, TESTS, Broken, end_on_signals
 
-# The descriptors of tests/again.c.
+# The descriptors of tests/parts/again.c.
 RUNS, ANSWERS = 198, 199
 # How much of an output is read.
 MOST = 1 << 24
@@ -38,12 +37,12 @@ def folder():
 
 
 def compiled(room, name="again"):
-    """Compiles a library of tests. Returns its path, or None if there is no C compiler."""
+    """Compiles a library of tests/parts. Returns its path, or None if there is no C compiler."""
     compiler = shutil.which("cc") or shutil.which("gcc")
     if not compiler:
         return None
-    library = os.path.join(room, name + ".so")
-    source = os.path.join(TESTS, name + ".c")
+    library = os.path.join(room, os.path.basename(name) + ".so")
+    source = os.path.join(TESTS, "parts", name + ".c")
     subprocess.run([compiler, "-shared", "-fPIC", "-O1", "-Wall", "-o", library, source], check=True)
     return library
 
@@ -130,7 +129,7 @@ class Again:
         os.write(to, b"\0".join([b"%d %d" % (first, last), *map(os.fsencode, words), b""]))
         answer = os.read(back, 64).split()
         if len(answer) != 2:
-            raise Broken("the library of tests/again.c has ended")
+            raise Broken("the library of tests/parts/again.c has ended")
         return Ran(int(answer[0]), *files.take(), answer[1] == b"1")
 
     def end(self):

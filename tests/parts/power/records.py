@@ -4,15 +4,14 @@ import bisect
 import collections
 import os
 import subprocess
-import sys
 from itertools import zip_longest
 
-sys.dont_write_bytecode = True  # no files of the tool's own in the repository
-from parts.files import bytes_of
-from parts.group import SESSION
-from parts.program import PROGRAM, Broken
 from shared.nodes import command_of, free_addresses
 from shared.record import LOG_HEADER, PROMISE, START, VOTE, Damaged, record_of
+
+from ..files import bytes_of
+from ..group import SESSION
+from ..program import PROGRAM, Broken
 
 # From some time on so many bytes of the record must not be lost, and why: "synced", or "answered" since the node sent or showed something.
 Claim = collections.namedtuple("Claim", "time length why")
@@ -23,8 +22,8 @@ Finding = collections.namedtuple("Finding", "kind read fault")
 
 
 def claims_of(notes, record):
-    """Returns the claims of the notes that tests/power_sync.c has made for a record. A file that got the record's name has it for sure when
-    the folder is synced, and its bytes when they were synced under either name."""
+    """Returns the claims of the notes that tests/parts/power/sync.c has made for a record. A file that got the record's name has it for
+    sure when the folder is synced, and its bytes when they were synced under either name."""
     synced, is_named, claims = {}, False, []
     for moment, kind, length, path in notes:
         if kind == "answer":

@@ -9,7 +9,6 @@ but writes each sector of 512 bytes as a whole or not at all."""
 import bisect
 import collections
 import contextlib
-import ctypes
 import errno
 import os
 import signal
@@ -19,8 +18,8 @@ import sys
 import tempfile
 import time
 
-sys.dont_write_bytecode = True  # no files of the tool's own in the repository
-from parts.program import Broken
+from ..mounts import LIBRARY, mount, must
+from ..program import TESTS, Broken
 
 SECTOR = 512
 BLOCK = 4096
@@ -42,26 +41,8 @@ PLACE = struct.Struct("<QQI")  # handle, offset, size
 TOP, DISK = 1, 2  # the files: the folder, and `disk` in it
 LONG = 3600  # seconds for which the kernel need not ask again
 
-# From linux/mount.h, linux/sched.h and linux/prctl.h.
-MS_REC, MS_PRIVATE, CLONE_NEWNS = 0x4000, 0x40000, 0x20000
+# From linux/prctl.h.
 PR_SET_PDEATHSIG, PR_SET_IO_FLUSHER = 1, 57
-LIBRARY = ctypes.CDLL(None, use_errno=True)
-
-
-def must(status, what):
-    """Raises Broken if a call of the C library failed."""
-    if status != 0:
-        raise Broken(f"{what}: {os.strerror(ctypes.get_errno())}")
-
-
-def mount(source, folder, kind, flags, options):
-    return LIBRARY.mount(source, folder, kind, ctypes.c_ulong(flags), options)
-
-
-def hide_mounts():
-    """From now on nobody else sees what this process and its children mount, and all of it goes away with them, however they end."""
-    must(LIBRARY.unshare(CLONE_NEWNS), "this process cannot have mounts of its own")
-    must(mount(b"none", b"/", None, MS_REC | MS_PRIVATE, None), "this process cannot have mounts of its own")
 
 
 class Server:
@@ -181,9 +162,11 @@ def served_disk(room, size):
     """Has a disk of this many bytes served, in a folder of `room`. Gives the path of its file. When it has ended, all is in the notes."""
     folder = os.path.join(room, "served")
     os.makedirs(folder, exist_ok=True)
-    words = [sys.executable, os.path.realpath(__file__), folder, str(size), notes_in(room)]
+    words = [sys.executable, "-B", "-m", "parts.power.disk", folder, str(size), notes_in(room)]
     # Ctrl-C must not reach the process while a file system is mounted on what it serves.
-    server = subprocess.Popen(words, stdin=subprocess.DEVNULL, stdout=subprocess.PIPE, text=True, start_new_session=True)
+    server = subprocess.Popen(
+        words, cwd=TESTS, stdin=subprocess.DEVNULL, stdout=subprocess.PIPE, text=True, start_new_session=True
+    )
     said = None
     try:
         said = server.stdout.readline().strip()

@@ -1,8 +1,8 @@
 /* Loaded into a program by LD_PRELOAD, this runs it again and again, each time in a process of its own, and refuses
    requests for memory. Each run begins with a fork, before `main`, so that the program is loaded only once.
 
-   tests/again.py writes the runs to descriptor 198, one at a time. A run is the number of the first request that is
-   refused, that of the last one, 0 and 0 for none, and the words of the program, each with a zero byte behind it. It
+   tests/parts/again.py writes the runs to descriptor 198, one at a time. A run is the number of the first request that
+   is refused, that of the last one, 0 and 0 for none, and the words of the program, each with a zero byte behind it. It
    has as many words as the program was started with, and at most 4,096 bytes, which a pipe hands over whole. The
    answer on descriptor 199 is the exit status, or the number of the signal below 0, and whether a request was refused.
 

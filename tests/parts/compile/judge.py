@@ -13,9 +13,10 @@ import tempfile
 
 sys.dont_write_bytecode = True  # no files of the tool's own in the repository
 TOOLS, RUNNER, PROGRAMS = sys.argv[1:]
-sys.path[:0] = [TOOLS, os.path.dirname(os.path.dirname(os.path.abspath(__file__)))]
+HERE = os.path.dirname(os.path.abspath(__file__))
+sys.path[:0] = [TOOLS, os.path.dirname(os.path.dirname(HERE))]
 from compiler.program import Options, compile_text
-from compiling.free_pascal import run_code
+from parts.compile.free_pascal import run_code
 
 
 def is_right(program, file):

@@ -4,8 +4,9 @@ them out, and has much of others."""
 import heapq
 
 from shared.script import FAILURES
-from storm_end import ending_of, may_settle
-from storm_play import Play
+
+from .end import ending_of, may_settle
+from .play import Play
 
 SIZES, SHARES = (1, 3, 5, 7, 9), (1, 5, 2, 1, 1)
 # A node that waits for nothing else gets so many keys that it refuses some.

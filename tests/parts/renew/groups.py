@@ -6,19 +6,20 @@ import os
 import random
 import time
 
-from parts.checks import expect
-from parts.echo_code import ECHO, endless_in
-from parts.files import bytes_of
-from parts.group import Group, await_that, keys_of, output_of, values_of
-from parts.program import Broken
-from parts.scripts import expect_end, path_of
-from parts.terminals import Terminal
-from renew_cut import renew_cut
-from renew_records import by_number, keys, log, records_in, renew, vote
 from shared.nodes import free_addresses, is_empty_at
 from shared.record import PLACES, read_head, read_record
 from shared.watch import Whole
 from shared.words import text_of
+
+from ..checks import expect
+from ..echo_code import ECHO, endless_in
+from ..files import bytes_of
+from ..group import Group, await_that, keys_of, output_of, values_of
+from ..program import Broken
+from ..scripts import expect_end, path_of
+from ..terminals import Terminal
+from .cut import renew_cut
+from .records import by_number, keys, log, records_in, renew, vote
 
 # The most keys of a datagram.
 MOST = 64

@@ -3,9 +3,9 @@ is spelled here apart from the scripts, as docs/FORMATS.md describes it."""
 
 import os
 
-from parts.echo_code import ECHO
-from parts.files import file_with, number
-from renew_cut import renew_cut
+from ..echo_code import ECHO
+from ..files import file_with, number
+from .cut import renew_cut
 
 OLD, NEW = 7, 8
 # What `renew` makes of the characters HI for node N of three in session 8, by hand: the header, a

@@ -3,12 +3,13 @@ until it leads, and all goes on until nothing waits."""
 
 import collections
 
-from parts.group import keys_of
 from shared.group import MOST_DELIVERIES
 from shared.protocol import MOST_AGAIN, MOST_TOLD
 from shared.record import MOST_KEYS
-from storm_checks import output_on
-from storm_play import End
+
+from ..group import keys_of
+from .checks import output_on
+from .play import End
 
 # The nodes in the order in which they are chosen to be up, the leader first; how many are up;
 # whether messages are delivered by `settle`, where it does not make too many deliveries, and not by

@@ -7,9 +7,14 @@ import re
 import subprocess
 import sys
 
-from parts.checks import passed
-from parts.files import bytes_of
-from parts.program import PROGRAM, TOP, Broken
+from ..checks import passed
+from ..files import bytes_of
+from ..program import PROGRAM, TOP, Broken
+from . import limits
+from .cases import CASES
+from .programs import BY_HAND, PROGRAMS
+from .refusals import (DECLARATIONS, DECLARED, LINE, SEVERAL, SEVERAL_PLACES, STATEMENTS, TEXTS,
+                       TYPED, TYPED_PLACES)
 
 TOOLS, EXAMPLES = os.path.join(TOP, "tools"), os.path.join(TOP, "examples")
 TOOL = os.path.join(TOOLS, "compile")
@@ -17,11 +22,6 @@ sys.path.insert(0, TOOLS)
 from assembler import command as assembler
 from compiler.parsing.lexer import read_text
 from compiler.program import Options, Refused, compile_text
-from compiling import limits
-from compiling.cases import CASES
-from compiling.programs import BY_HAND, PROGRAMS
-from compiling.refusals import (DECLARATIONS, DECLARED, LINE, SEVERAL, SEVERAL_PLACES, STATEMENTS,
-                                TEXTS, TYPED, TYPED_PLACES)
 
 STEPS = "4000000000"
 # What is put into a text in a wrong place.

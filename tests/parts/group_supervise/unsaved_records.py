@@ -4,12 +4,13 @@ where its node has ended by D2."""
 import os
 import subprocess
 
-from parts.checks import expect
-from parts.files import file_with
-from parts.group import await_that
-from parts.program import Broken
-from parts.supervised import group_of
 from shared.unsaved import why_unsaved
+
+from ..checks import expect
+from ..files import file_with
+from ..group import await_that
+from ..program import Broken
+from ..supervised import group_of
 
 # Runs a command in a namespace of mounts, with a small disk at a folder, and other words after it.
 SMALL = ["unshare", "--mount", "bash", "-c"]

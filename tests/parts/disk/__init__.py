@@ -1,0 +1,1 @@
+"""What tests/disk alone uses."""

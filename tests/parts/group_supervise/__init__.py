@@ -1,0 +1,1 @@
+"""What tests/group_supervise alone uses."""

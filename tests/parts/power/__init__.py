@@ -1,0 +1,1 @@
+"""What tests/power alone uses."""

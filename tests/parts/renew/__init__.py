@@ -1,0 +1,1 @@
+"""What tests/renew alone uses."""

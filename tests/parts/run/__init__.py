@@ -1,0 +1,1 @@
+"""What tests/run alone uses."""
