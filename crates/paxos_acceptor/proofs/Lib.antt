@@ -1,5 +1,3 @@
-pub mod ByCases
 pub mod Ranges
 pub mod Fitting
 pub mod Reports
-pub mod Backing

@@ -1,9 +1,10 @@
 -- The part that an acceptor answers with reports its record.
-use Rattle.std.proofs.Common.{◌≡◌, ℕ, zero, suc, ◌+◌, ◌<◌, ◌≤◌, nat_le, nat_lt, true, false, if◌then◌else◌, List, [], ◌∷◌, length, take, None, All, Contains, refl, ◌∙◌, arith, get_or, drop, ap}
-use Rattle.std.proofs.lemmas.Bool.{ltb-false}
+use Rattle.std.proofs.Common.{◌≡◌, ℕ, zero, suc, ◌-◌, ◌<◌, ◌≤◌, nat_le, nat_lt, true, false, List, [], ◌∷◌, length, take, None, All, Contains, refl, arith, get_or, drop}
 use Rattle.std.proofs.lemmas.Bool.Decides.{nat_tests}
 use Rattle.std.proofs.lemmas.List.{take_all}
-use Rattle.std.proofs.lemmas.List.Elements.{All-cons, All-contains, All-contains_itself, All-filter, All-take, filter_passes}
+use Rattle.std.proofs.lemmas.Grind.{common_steps}
+use Rattle.std.proofs.lemmas.Option.{gets}
+use Rattle.std.proofs.lemmas.List.Elements.{All-contains, All-contains_itself, All-filter, filter_passes}
 use Rattle.paxos_msg.specs.Batches.{Record, Vote}
 use Rattle.paxos_msg.specs.Messages.{AreAbove, IsAscending, kept_vote_at}
 use Rattle.paxos_msg.specs.Sending.{IsReport}
@@ -22,10 +23,8 @@ above_at (x ∷ xs) s (suc i) d h k = above_at xs s i d h.1 (omega arith)
 -- the places rise with the index
 pub places_rise : (votes : List Vote) → IsAscending votes → IsNonDecreasingBy (λ vote. vote.place) votes
 places_rise [] h i j d le k = absurd (omega arith)
-places_rise (x ∷ xs) h zero zero d le k = omega arith
-places_rise (x ∷ xs) h zero (suc j) d le k = omega (arith, above_at xs x.place j d h.0 (omega arith))
-places_rise (x ∷ xs) h (suc i) zero d le k = absurd (omega arith)
-places_rise (x ∷ xs) h (suc i) (suc j) d le k = places_rise xs h.1 i j d (omega arith) (omega arith)
+places_rise (x ∷ xs) h zero j d le k = grind (arith, above_at xs x.place (j - 1) d h.0)
+places_rise (x ∷ xs) h (suc i) j d le k = grind (arith, places_rise xs h.1 i (j - 1) d)
 
 -- the votes from the index on, at which their places are no more below this one
 pub dropped_at : (votes : List Vote) (from i : ℕ) → i ≤ length votes
@@ -34,27 +33,19 @@ pub dropped_at : (votes : List Vote) (from i : ℕ) → i ≤ length votes
 dropped_at [] from zero k parted = refl
 dropped_at [] from (suc i) k parted = refl
 dropped_at (x ∷ xs) from zero k parted =
-    let first : nat_lt x.place from ≡ false = parted.1 0 x (omega arith) (omega arith) in
-    let there : nat_le from x.place ≡ true = grind (arith, nat_tests) in
-    rw there (ap (λ (ys : List Vote). x ∷ ys) (dropped_at xs from zero (omega arith)
-    (λ j d le lt. absurd (omega arith), λ j d le lt. parted.1 (suc j) d (omega arith) (omega arith))))
+    let above = λ (j : ℕ) (d : Vote). parted.1 (suc j) d in
+    grind (arith, nat_tests, parted.1 0 x, above, dropped_at xs from zero)
 dropped_at (x ∷ xs) from (suc i) k parted =
-    let first : nat_lt x.place from ≡ true = parted.0 0 x (omega arith) (omega arith) in
-    let later : nat_le from x.place ≡ false = grind (arith, nat_tests) in
-    rw later (dropped_at xs from i (omega arith)
-    (λ j d le lt. parted.0 (suc j) d (omega arith) (omega arith), λ j d le lt. parted.1 (suc j) d (omega arith) (omega arith)))
+    let below = λ (j : ℕ) (d : Vote). parted.0 (suc j) d in
+    let above = λ (j : ℕ) (d : Vote). parted.1 (suc j) d in
+    grind (arith, nat_tests, parted.0 0 x, below, above, dropped_at xs from i)
 
 -- ---- what they say
-
-from_step : (x : Vote) (xs : List Vote) (from s : ℕ) → from ≤ s
-    → kept_vote_at (votes_from from xs) s ≡ kept_vote_at xs s
-    → kept_vote_at (votes_from from (x ∷ xs)) s ≡ kept_vote_at (x ∷ xs) s
-from_step x xs from s h ih = grind (arith, nat_tests)
 
 -- from there on they say what all say
 said_from : (xs : List Vote) (from s : ℕ) → from ≤ s → kept_vote_at (votes_from from xs) s ≡ kept_vote_at xs s
 said_from [] from s h = refl
-said_from (x ∷ xs) from s h = from_step x xs from s h (said_from xs from s h)
+said_from (x ∷ xs) from s h = grind (arith, nat_tests, said_from xs from s h)
 
 -- they are above what all are above, and ascend where all do
 above_from : (xs : List Vote) (from s : ℕ) → AreAbove s xs → AreAbove s (votes_from from xs)
@@ -74,68 +65,41 @@ places_from xs from vote h =
 
 -- ---- the first of them
 
--- what is among the first is among all
+-- what is among the first of those from a place on is among those, and among all
 first_in : (n : ℕ) (xs : List Vote) (vote : Vote) → Contains (take n xs) vote → Contains xs vote
-first_in n xs vote h = All-contains (Contains xs) (take n xs) vote (All-take (Contains xs) n xs (All-contains_itself xs)) h
+first_in n xs vote h = grind (arith, common_steps)
 
 from_in : (xs : List Vote) (from : ℕ) (vote : Vote) → Contains (votes_from from xs) vote → Contains xs vote
 from_in xs from vote h =
     All-contains (Contains xs) (votes_from from xs) vote
     (All-filter (λ x. nat_le from x.place) (Contains xs) xs (All-contains_itself xs)) h
 
-none_step : (x : Vote) (xs : List Vote) (s : ℕ) → s < x.place → kept_vote_at xs s ≡ None → kept_vote_at (x ∷ xs) s ≡ None
-none_step x xs s h ih = grind (arith, nat_tests)
-
 none_above : (xs : List Vote) (p s : ℕ) → s ≤ p → AreAbove p xs → kept_vote_at xs s ≡ None
 none_above [] p s h above = refl
-none_above (x ∷ xs) p s h above = none_step x xs s (omega (arith, above.0)) (none_above xs p s h above.1)
-
--- the place after the last vote is that of the votes after the first one
-pub after_next : (x y : Vote) (ys : List Vote) → place_after (x ∷ (y ∷ ys)) ≡ place_after (y ∷ ys)
-after_next x y ys =
-    grind arith
+none_above (x ∷ xs) p s h above = grind (arith, nat_tests, none_above xs p s h above.1)
 
 -- before the place after the last of them, the first votes say what all say
 cut : (n : ℕ) (xs : List Vote) (s : ℕ) → IsAscending xs → s < place_after (take (suc n) xs)
     → kept_vote_at (take (suc n) xs) s ≡ kept_vote_at xs s
 cut n [] s up h = refl
-cut zero (x ∷ xs) s up h = rw (none_above xs x.place s (omega (arith, h)) up.0) refl
-cut (suc n) (x ∷ []) s up h = refl
-cut (suc n) (x ∷ (y ∷ ys)) s up h = rw (cut n (y ∷ ys) s up.1 (rw (after_next x y (take n ys)) at h)) refl
+cut zero (x ∷ xs) s up h = grind (arith, nat_tests, none_above xs x.place s)
+cut (suc n) (x ∷ xs) s up h = grind (arith, nat_tests, cut n xs s up.1)
 
 -- and they are all before it
 before_end : (n : ℕ) (xs : List Vote) → IsAscending xs → All (λ vote. vote.place < place_after (take n xs)) (take n xs)
-before_end zero xs up = λ k d lt. absurd (omega arith)
-before_end (suc n) [] up = λ k d lt. absurd (omega arith)
-before_end (suc zero) (x ∷ xs) up = All-cons (λ vote. vote.place < x.place + 1) x [] (omega arith) (λ k d lt. absurd (omega arith))
-before_end (suc (suc n)) (x ∷ []) up = All-cons (λ vote. vote.place < x.place + 1) x [] (omega arith) (λ k d lt. absurd (omega arith))
-before_end (suc (suc n)) (x ∷ (y ∷ ys)) up =
-    let later = before_end (suc n) (y ∷ ys) up.1 in
-    rw (after_next x y (take n ys))
-    (All-cons (λ vote. vote.place < place_after (y ∷ take n ys)) x (y ∷ take n ys) (omega (arith, up.0.0, later 0 y (omega arith))) later)
+before_end n xs up = λ k d lt. grind (arith, common_steps, gets, places_rise xs up k (length (take n xs) - 1) d)
 
 -- the first 8 votes from a place on report the record up to there
 pub reports : (r : Record) (from : ℕ) → IsAscending r.votes → All (λ vote. vote.place ≤ 65535) r.votes
     → IsReport r from (upto_of (votes_from from r.votes)) (take 8 (votes_from from r.votes))
 reports r from up places =
     let rest : List Vote = votes_from from r.votes in
-    let rest_up : IsAscending rest = ascending_from r.votes from up in
+    let rest_up = ascending_from r.votes from up in
     record {
       own = λ vote h. from_in r.votes from vote (first_in 8 rest vote h);
       within = λ vote h.
-          let there : Contains rest vote = first_in 8 rest vote h in (
-            places_from r.votes from vote there,
-            elim (nat_lt 8 (length rest)) as (λ t. vote.place < (if t then place_after (take 8 rest) else 65536)) [
-              | true ↦ All-contains (λ x. x.place < place_after (take 8 rest)) (take 8 rest) vote (before_end 8 rest rest_up) h
-              | false ↦ omega (arith, All-contains (λ x. x.place ≤ 65535) r.votes vote places (from_in r.votes from vote there))
-            ],
-          );
-      whole = λ s low high.
-          elim (nat_lt 8 (length rest)) as
-          (λ t. nat_lt 8 (length rest) ≡ t → s < (if t then place_after (take 8 rest) else 65536)
-          → kept_vote_at (take 8 rest) s ≡ kept_vote_at rest s) [
-            | true ↦ λ e. cut 7 rest s rest_up
-            | false ↦ λ e h. rw (take_all 8 rest (ltb-false 8 (length rest) e)) refl
-          ] refl high
-          ∙ said_from r.votes from s low;
+          let there = first_in 8 rest vote h in
+          let ends = before_end 8 rest rest_up in
+          grind (arith, nat_tests, there, ends, places_from r.votes from vote, from_in r.votes from vote, All-contains);
+      whole = λ s low high. grind (arith, nat_tests, cut 7 rest s, take_all 8 rest, said_from r.votes from s);
     }

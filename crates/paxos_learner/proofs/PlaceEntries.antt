@@ -1,19 +1,12 @@
 -- A list of entries by place, and the finite map that it makes.
-use Rattle.std.proofs.Common.{◌≡◌, ◌∙◌, ◌<◌, ℕ, cond, nat_eq, List, [], ◌∷◌, length, position, slice_get, Some, None, refl, arith}
-use Rattle.std.proofs.lemmas.Bool.{eqb-true}
-use Rattle.std.proofs.lemmas.List.Quantifiers.{position-Some}
+use Rattle.std.proofs.Common.{◌≡◌, ◌∙◌, ℕ, cond, nat_eq, List, [], ◌∷◌, slice_get, Some, Option, ◌==◌, refl, arith}
 use Rattle.std.proofs.lemmas.Option.{get_or_from_slice_get, slice_get-map}
 use Rattle.std.specs.Prelude.{slice_index}
 use Rattle.std.specs.Map.{keys_of, lookup}
 use Rattle.std.specs.Ordering.{nat_cmp}
 use Rattle.std.specs.Cmp.{nat_cmp_total, unsigned_tied}
-use Rattle.std.specs.FinMap.{find, get, insert, remove, from_entries, get-from_entries, same_map, nat_cmp-IsAntisymmetric}
+use Rattle.std.specs.FinMap.{FinMap, find, get, from_entries, get-from_entries, same_map, nat_cmp-IsAntisymmetric}
 use Rattle.std.proofs.lemmas.Bool.Decides.{nat_tests}
-use Rattle.paxos_learner.proofs.OnePlace.{get_put, get_cut}
-
--- a search ends at an index where the place is
-pub found_place : (places : List ℕ) (q i : ℕ) → position (nat_eq q) places ≡ Some i → (i < length places) × (slice_index places i ≡ q)
-found_place places q i h = grind (arith, nat_tests, position-Some, eqb-true)
 
 module _ {V : Type 0} (es : List (ℕ × V)) where
   -- the place of the entry at an index
@@ -27,17 +20,9 @@ module _ {V : Type 0} (es : List (ℕ × V)) where
     searched [] = refl
     searched (f ∷ fs) = λ i. cond (unsigned_tied q f.0 i) (Some f.1) (searched fs i)
 
-module _ {V : Type 0} (es fs : List (ℕ × V)) (s : ℕ) where
-  -- entries that differ at one place make maps that differ there
-  pub put_place : (v : V) → ((q : ℕ) → lookup (nat_eq q) fs ≡ cond (nat_eq s q) (Some v) (lookup (nat_eq q) es))
-      → from_entries {R = nat_cmp} fs ≡ insert (from_entries es) s v
-  put_place v h =
-      same_map nat_cmp_total nat_cmp-IsAntisymmetric _ _
-      (λ q. grind (arith, nat_tests, h q, get_place es q, get_place fs q, get_put (from_entries es) s v q))
-
-  -- entries that lack one place make maps that lack it
-  pub cut_place : ((q : ℕ) → lookup (nat_eq q) fs ≡ cond (nat_eq s q) None (lookup (nat_eq q) es))
-      → from_entries {R = nat_cmp} fs ≡ remove (from_entries es) s
-  cut_place h =
-      same_map nat_cmp_total nat_cmp-IsAntisymmetric _ _
-      (λ q. grind (arith, nat_tests, h q, get_place es q, get_place fs q, get_cut (from_entries es) s q))
+-- entries that differ at one place make maps that differ there
+pub changed_place : {V : Type 0} (es fs : List (ℕ × V)) (s : ℕ) (o : Option V) (m : FinMap nat_cmp V)
+    → ((q : ℕ) → get m q ≡ cond (q == s) o (get (from_entries {R = nat_cmp} es) q))
+    → ((q : ℕ) → lookup (nat_eq q) fs ≡ cond (nat_eq s q) o (lookup (nat_eq q) es)) → from_entries fs ≡ m
+changed_place es fs s o m is h =
+    same_map nat_cmp_total nat_cmp-IsAntisymmetric _ _ (λ q. grind (arith, nat_tests, h q, is q, get_place es q, get_place fs q))

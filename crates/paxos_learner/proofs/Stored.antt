@@ -4,7 +4,6 @@ use Rattle.std.proofs.lemmas.List.{map-append}
 use Rattle.std.specs.List.{list_any}
 use Rattle.std.proofs.lemmas.Bool.Decides.{nat_tests}
 use Rattle.indexmap.specs.IndexSet.{insert_key}
-use Rattle.paxos_msg.specs.Keys.{Key}
 use Rattle.paxos_learner.specs.declared.keys.TypedKey.{TypedKey}
 use Rattle.paxos_learner.specs.Input.{same_key}
 use Rattle.paxos_learner.specs.Entered.{key_of}
@@ -25,9 +24,4 @@ module _ (test : TypedKey → TypedKey → Bool) (alike : (a b : TypedKey) → t
   -- a key that is stored is seen among the keys
   pub insert_stored : (keys : List TypedKey) (k : TypedKey)
       → map key_of (insert_key test keys k) ≡ insert_key same_key (map key_of keys) (key_of k)
-  insert_stored keys k = grind (arith, any_stored keys k, map-append key_of keys (k ∷ []))
-
--- the bytes of stored keys are those of the keys that are seen
-pub bytes_stored : (keys : List TypedKey) → map (λ (k : TypedKey). k.byte) keys ≡ map (λ (k : Key). k.byte) (map key_of keys)
-bytes_stored [] = refl
-bytes_stored (k ∷ keys) = grind (arith, bytes_stored keys)
+  insert_stored keys k = grind (arith, any_stored keys k, map-append)

@@ -5,7 +5,5 @@ pub mod ByPlace
 pub mod GreatestPlace
 pub mod BackedAsMoreIsSent
 pub mod PartsHeard
-pub mod Begun
 pub mod Proposals
 pub mod InRange
-pub mod ProposalsStay

@@ -1,30 +1,25 @@
 -- Dropping the votes that a proposer has passed.
-use Rattle.std.proofs.Common.{◌≡◌, ℕ, ◌≤◌, nat_le, nat_lt, ◌==◌, Bool, true, false, List, [], ◌∷◌, Option, Some, refl, arith}
+use Rattle.std.proofs.Common.{◌≡◌, ℕ, ◌≤◌, List, [], ◌∷◌, Some, refl, arith}
 use Rattle.std.specs.Prelude.{All}
 use Rattle.std.proofs.lemmas.Bool.{leb-true}
 use Rattle.std.proofs.lemmas.Bool.Decides.{nat_tests}
 use Rattle.std.proofs.lemmas.List.Elements.{All-cons, All-head, All-tail, All-weaker, filter_passes}
-use Rattle.base.proofs.Branches.{either}
 use Rattle.paxos_msg.specs.Batches.{Vote}
 use Rattle.paxos_msg.specs.Messages.{kept_vote_at}
 use Rattle.paxos_msg.specs.Records.{with_vote}
-use Rattle.paxos_proposer.specs.Proposer.{greater, heard, heard_one}
+use Rattle.paxos_proposer.specs.Proposer.{heard, heard_one}
 use Rattle.paxos_msg.specs.Places.{votes_from}
-
--- each vote is at place s or above it
-abbrev AreFrom : ℕ → List Vote → Type 0
-AreFrom s votes = All (λ vote. s ≤ vote.place) votes
 
 -- ---- what is left from a place on
 
 -- what is left is from the place on
-pub left_from : (s : ℕ) (votes : List Vote) → AreFrom s (votes_from s votes)
+pub left_from : (s : ℕ) (votes : List Vote) → All (λ vote. s ≤ vote.place) (votes_from s votes)
 left_from s votes = grind (arith, nat_tests, All-weaker, leb-true, filter_passes)
 
 -- from the place on there are the votes that there were
 pub left_at : (n s : ℕ) (votes : List Vote) → n ≤ s → kept_vote_at (votes_from n votes) s ≡ kept_vote_at votes s
 left_at n s [] low = refl
-left_at n s (x ∷ xs) low = let ih = left_at n s xs low in grind (arith, nat_tests)
+left_at n s (x ∷ xs) low = grind (arith, nat_tests, left_at n s xs low)
 
 -- ---- what holds of all votes that are kept
 
@@ -38,27 +33,21 @@ module _ (P : Vote → Type 0) where
   with_all : (votes : List Vote) (vote : Vote) → P vote → All P votes → All P (with_vote votes vote)
   with_all [] vote p h = All-cons P vote [] p h
   with_all (x ∷ xs) vote p h =
-      either (All P) (nat_lt vote.place x.place) (All-cons P vote (x ∷ xs) p h)
-      (either (All P) (x.place == vote.place) (All-cons P vote xs p (All-tail P x xs h))
-      (All-cons P x (with_vote xs vote) (All-head P x xs h) (with_all xs vote p (All-tail P x xs h))))
+      let others = All-tail P x xs h in
+      grind (arith, nat_tests, All-cons P, All-head P x xs h, others, with_all xs vote p others)
 
-  greater_all : (o : Option Vote) (vote : Vote) → ((k : Vote) → o ≡ Some k → P k) → P vote → P (greater o vote)
-  greater_all o vote h p = grind (arith, nat_tests)
-
-  one_all : (t : Bool) (low : ℕ) (kept : List Vote) (vote : Vote) → nat_le low vote.place ≡ t → All P kept
-      → (low ≤ vote.place → P vote) → All P (heard_one low kept vote)
-  one_all true low kept vote e h p = grind (arith, nat_tests, with_all, greater_all, found_all, leb-true)
-  one_all false low kept vote e h p = rw e h
+  one_all : (low : ℕ) (kept : List Vote) (vote : Vote) → All P kept → (low ≤ vote.place → P vote) → All P (heard_one low kept vote)
+  one_all low kept vote h p = grind (arith, nat_tests, with_all, found_all)
 
   -- and after votes are heard, if it holds of those from low on
   pub heard_all : (low : ℕ) (kept votes : List Vote) → All P kept → All (λ vote. low ≤ vote.place → P vote) votes
       → All P (heard low kept votes)
   heard_all low kept [] h k = h
   heard_all low kept (x ∷ xs) h k =
-      heard_all low (heard_one low kept x) xs
-      (one_all (nat_le low x.place) low kept x refl h (All-head (λ vote. low ≤ vote.place → P vote) x xs k))
-      (All-tail (λ vote. low ≤ vote.place → P vote) x xs k)
+      let Q : Vote → Type 0 = λ vote. low ≤ vote.place → P vote in
+      heard_all low (heard_one low kept x) xs (one_all low kept x h (All-head Q x xs k)) (All-tail Q x xs k)
 
 -- what is heard from low on is from each place on that is not above low
-pub ahead_heard : (next low : ℕ) (kept votes : List Vote) → next ≤ low → AreFrom next kept → AreFrom next (heard low kept votes)
+pub ahead_heard : (next low : ℕ) (kept votes : List Vote) → next ≤ low → All (λ vote. next ≤ vote.place) kept
+    → All (λ vote. next ≤ vote.place) (heard low kept votes)
 ahead_heard next low kept votes le h = heard_all (λ vote. next ≤ vote.place) low kept votes h (λ k d less from. omega arith)

@@ -1,5 +1,7 @@
-use Rattle.paxos_learner.proofs.Hearing.{accepted_more, accepted_size, told_more, told_size}
+use Rattle.std.proofs.Common.{arith}
+use Rattle.std.proofs.lemmas.Bool.Decides.{nat_tests}
+use Rattle.paxos_learner.proofs.OnePlace.{get_put}
 use Rattle.paxos_learner.proofs.laws.learned_stays.Goals as goal
 
 pub returns : goal.returns
-returns c = record { accepted = accepted_more; told = told_more; size_accepted = accepted_size; size_told = told_size }
+returns c = grind (arith, nat_tests, get_put)

@@ -1,7 +1,8 @@
 use Rattle.std.proofs.Common.{arith}
-use Rattle.paxos_learner.proofs.Backing.{accepted_backed, begun_backed, told_backed}
+use Rattle.std.proofs.lemmas.Bool.Decides.{nat_tests}
+use Rattle.std.specs.FinMap.{get-empty}
+use Rattle.paxos_learner.proofs.Backing.{accepted_backed, learn_backed}
 use Rattle.paxos_learner.proofs.laws.stays_backed.Goals as goal
 
 pub returns : goal.returns
-returns c =
-    grind (arith, begun_backed, accepted_backed, told_backed)
+returns c = grind (arith, nat_tests, get-empty, accepted_backed, learn_backed)

@@ -1,5 +1,8 @@
-use Rattle.paxos_learner.proofs.Hearing.{accepted_in_range, begun_in_range, told_in_range}
+use Rattle.std.proofs.Common.{arith}
+use Rattle.std.proofs.lemmas.Bool.Decides.{nat_tests}
+use Rattle.std.specs.FinMap.{get-empty}
+use Rattle.paxos_learner.proofs.Hearing.{accepted_in_range, learn_in_range}
 use Rattle.paxos_learner.proofs.laws.values_fit.Goals as goal
 
 pub returns : goal.returns
-returns c = record { begins = begun_in_range; accepted = accepted_in_range; told = told_in_range }
+returns c = grind (arith, nat_tests, get-empty, accepted_in_range, learn_in_range)

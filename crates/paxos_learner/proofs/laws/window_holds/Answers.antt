@@ -1,5 +1,8 @@
-use Rattle.paxos_learner.proofs.Hearing.{accepted_in_window, begun_in_window, told_in_window}
+use Rattle.std.proofs.Common.{arith}
+use Rattle.std.proofs.lemmas.Bool.Decides.{nat_tests}
+use Rattle.std.specs.FinMap.{get-empty}
+use Rattle.paxos_learner.proofs.Hearing.{accepted_in_window, insert_in_window}
 use Rattle.paxos_learner.proofs.laws.window_holds.Goals as goal
 
 pub returns : goal.returns
-returns c = record { begins = begun_in_window; accepted = accepted_in_window; told = told_in_window }
+returns c = grind (arith, nat_tests, get-empty, accepted_in_window, insert_in_window)

@@ -1,7 +1,7 @@
 -- The keys from the place on are the last ones of the set.
 use Rattle.std.proofs.Common.{arith}
-use Rattle.paxos_learner.proofs.Stored.{bytes_stored}
+use Rattle.std.proofs.lemmas.Simd.{map-map}
 use Rattle.paxos_learner.proofs.input.Input.after.Goals as goal
 
 pub returns : goal.returns
-returns c = grind (arith, bytes_stored c.from_index.result.now)
+returns c = grind (arith, map-map)

@@ -9,8 +9,8 @@ raise_front-requires c =
     let place = open_place c.args.self.now c.args.place c.requires.open in
     let kept = c.in_ok-reserve-2.ensures in
     rw (c.insert.ensures, c.in_ok-make_room.ensures.map)
-    (input_of_more c.self.inside.learned.map c.self.inside.input _ c.args.place c.args.value.now c.self.invariant.input
-    (rw (← c.self.view_is) at place.0) kept.keys kept.ends kept.room kept.key_room (omega arith) (omega arith) (omega arith))
+    (input_of_more _ _ _ c.args.place _ c.self.invariant.input (rw (← c.self.view_is) at place.0) kept.keys kept.ends kept.room
+    kept.key_room (omega arith) (omega arith) (omega arith))
 
 pub invariant_of-self-2 : goal.invariant_of-self-2
 invariant_of-self-2 c =

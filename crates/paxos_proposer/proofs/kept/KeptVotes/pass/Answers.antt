@@ -1,11 +1,12 @@
 -- The reports without the first place make the votes above it. Their greatest place is the same, or
 -- there are no votes.
-use Rattle.std.proofs.Common.{◌≡◌, ◌+◌, ◌≤◌, ◌∙◌, sym, arith}
+use Rattle.std.proofs.Common.{◌≡◌, ◌+◌, ◌≤◌, arith}
+use Rattle.std.proofs.lemmas.Bool.Decides.{nat_tests}
 use Rattle.std.specs.Prelude.{All}
 use Rattle.paxos_proposer.specs.KeptVotes.{reported_votes}
 use Rattle.paxos_msg.specs.Places.{votes_from}
 use Rattle.paxos_proposer.proofs.ByPlace.{votes_of-cut}
-use Rattle.paxos_proposer.proofs.GreatestPlace.{greatest-passed, greatest-left}
+use Rattle.paxos_proposer.proofs.GreatestPlace.{any_from, is_kept_from-votes_from}
 use Rattle.paxos_proposer.proofs.kept.KeptVotes.pass.Goals.{After-swap_remove}
 use Rattle.paxos_proposer.proofs.kept.KeptVotes.pass.Goals as goal
 
@@ -17,16 +18,12 @@ cut : (c : After-swap_remove) → reported_votes c.swap_remove.new.self.entries
 cut c = votes_of-cut c.self.inside.reports.entries _ c.args.place c.swap_remove.ensures.updates.0 (from c)
 
 pub invariant_of-self : goal.invariant_of-self
-invariant_of-self c =
-    grind (
-      arith,
-      cut (goal.at.invariant_of-self c).After-swap_remove,
-      greatest-passed _ c.self.inside.greatest c.args.place (sym c.eq.ensures ∙ c.if-eq.true) c.self.invariant,
-    )
+invariant_of-self c = grind (arith, nat_tests, cut (goal.at.invariant_of-self c).After-swap_remove, is_kept_from-votes_from)
 
 pub invariant_of-self-else-eq : goal.invariant_of-self-else-eq
 invariant_of-self-else-eq c =
-    grind (arith, cut, greatest-left)
+    let at = (goal.at.invariant_of-self-else-eq c).After-swap_remove in
+    grind (arith, nat_tests, cut at, is_kept_from-votes_from, any_from _ _ (from at))
 
 pub returns-then-eq : goal.returns-then-eq
 returns-then-eq c = rw (← c.self.view_is) (cut (goal.at.returns-then-eq c).After-swap_remove)
