@@ -1,14 +1,9 @@
-mod Ranges
-mod Slotted
+mod Votes
 mod Fields
 mod VotesV1
-mod RecordRead
-mod LogEntries
 mod LogFolds
 mod LogGrowth
 mod Forms
-mod RecordIn
 mod TornAppends
-mod SyncedEntries
 mod DiskCalls
 mod Restarts

@@ -1,5 +1,5 @@
 -- The results for each procedure.
-use Rattle.std.proofs.Common.{◌≡◌, ℕ, zero, suc, ◌+◌, ◌-◌, ◌<◌, List, [], ◌∷◌, length, Some, Result, Ok, slice_get, refl, arith}
+use Rattle.std.proofs.Common.{◌≡◌, ◌↔◌, ℕ, zero, suc, ◌+◌, ◌-◌, ◌<◌, List, [], ◌∷◌, length, Some, Result, Ok, slice_get, refl, arith}
 use Rattle.base.specs.Steps.{◌>>=◌}
 use Rattle.pcode_file.specs.declared.fault.FileFault.{FileFault}
 use Rattle.pcode_file.specs.Checks.{all_of, first_of}
@@ -21,14 +21,12 @@ module _ {A : Type 0} (f : ℕ → Result A FileFault) where
   all_length i zero xs h = grind arith
   all_length i (suc n) xs h = grind (arith, all_length (i + 1) n)
 
-  -- what was collected is what f answers
-  pub all_each : (i n : ℕ) (xs : List A) → all_of f i n ≡ Ok xs → (k : ℕ) (x : A) → slice_get xs k ≡ Some x → f (i + k) ≡ Ok x
+  -- what is collected is what f answers
+  pub all_is : (i : ℕ) (xs : List A)
+      → (all_of f i (length xs) ≡ Ok xs) ↔ ((k : ℕ) (x : A) → slice_get xs k ≡ Some x → f (i + k) ≡ Ok x)
   unfolding all_of
-  all_each i zero xs h k x e = grind arith
-  all_each i (suc n) xs h k x e = grind (arith, all_each (i + 1) n)
-
-  -- what f answers is collected
-  pub all_again : (i : ℕ) (xs : List A) → ((k : ℕ) (x : A) → slice_get xs k ≡ Some x → f (i + k) ≡ Ok x) → all_of f i (length xs) ≡ Ok xs
-  unfolding all_of
-  all_again i [] h = refl
-  all_again i (x ∷ xs) h = grind (arith, h 0 x, all_again (i + 1) xs (λ k y e. grind (arith, h (suc k) y)))
+  all_is i [] = grind arith
+  all_is i (x ∷ xs) = (
+    λ h k y e. grind (arith, (all_is (i + 1) xs).0),
+    λ h. grind (arith, h 0 x, (all_is (i + 1) xs).1 (λ k y e. grind (arith, h (suc k) y))),
+  )

@@ -1,4 +1,2 @@
 pub mod Links
-pub mod Moves
 pub mod Calling
-pub mod Bytes

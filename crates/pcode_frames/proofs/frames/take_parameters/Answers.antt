@@ -1,12 +1,8 @@
-use Rattle.std.proofs.Common.{◌≡◌, ◌∷◌, sym, ◌∙◌}
-use Rattle.pcode_frames.proofs.Moves.{moved_more, left_more}
+use Rattle.std.proofs.Common.{append_assoc, arith}
+use Rattle.std.proofs.Math.Seq.{take-add}
+use Rattle.std.proofs.lemmas.List.{drop-drop}
 use Rattle.pcode_frames.proofs.frames.take_parameters.Goals as goal
 
 pub loop-preserved : goal.loop-preserved
 loop-preserved c =
-    let popped : c.loop.stack ≡ c.unwrap.result ∷ c.pop.new.self = rw c.unwrap.ensures at c.pop.ensures.popped in
-    let next = sym c.loop.invariant.stack ∙ popped in
-    record {
-      memory = rw (c.push.ensures, c.loop.invariant.memory) (moved_more _ _ _ _ _ next);
-      stack = sym (left_more c.args.stack.now _ c.loop.counter _ next);
-    }
+    grind (arith, append_assoc, take-add c.loop.counter 1 c.args.stack.now, drop-drop 1 c.loop.counter c.args.stack.now)
