@@ -1,5 +1,5 @@
-"""What the tests and benches share. tools/group/shared is a part of it too: what the scripts for a
-group have in common."""
+"""What the tests and benches share. A folder has what one script alone uses, but for compile.
+tools/group/shared is a part of it too: what the scripts for a group have in common."""
 
 import os
 import sys

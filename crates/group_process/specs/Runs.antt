@@ -75,7 +75,7 @@ abbrev pub record_after : Bool → Known → Option Response → Record
 record_after is_kept n None = n.kept
 record_after is_kept n (Some made) = fallen_record is_kept n made made.saves
 
--- The record that the end of a process leaves whose node was `last`.
+-- The record at the end of a process whose node was `last`.
 abbrev pub record_of : Running → Bool → Option Doing → Record
 record_of last is_kept None = last.known.kept
 record_of last is_kept (Some d) = record_after is_kept last.known (unsaved last.known d.deed)

@@ -100,7 +100,7 @@ MayFailToSave result = FailsOnlyWith (Memory ∷ Store ∷ []) result
 
 -- The refusals of a byte that is typed at a node that works: 256 keys wait, or otherwise no serial
 -- is left.
--- Forbids: a refusal where there is a key to spare.
+-- Forbids: one of them where there is a key to spare.
 pub record IsTypingRefused {T : Type 0} (n : Known) (result : Result T NodeFault) : Type 0 where
   pub busy : IsErrOf result Busy ↔ (length n.waiting ≡ MOST_WAITING)
   pub spent : IsErrOf result SerialSpent

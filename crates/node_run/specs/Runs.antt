@@ -42,8 +42,8 @@ pub record WritesReleased (seen : ℕ) (last : Running) (fails : Type 0) (from t
 -- passes over its wire is what passes in its deeds. It campaigns first if its plan says so. Then it
 -- is prompted by its keyboard, and takes as many turns as the plan has, or fewer if it is refused.
 -- After all turns no output waits. It ends at its first failed save.
--- Allows: turns at which nothing is heard, as nothing has come.
--- Forbids: output that is not released.
+-- Allows: turns at which nothing is heard.
+-- Forbids: output that waits at `Ok`.
 pub record RunsNode {S : Type 0} (loads : S → Result Record StoreFault → S → Type 0) (me : Me)
     (program : Parts) (store : S) (plan : NodePlan) (from to : Around)
     (before after : Option (List ℕ))

@@ -36,7 +36,7 @@ pub fn learning_keeps_the_output()
     run_is_after();
 }
 
-/// No replay has released a byte that its machine has not written.
+/// Before its first step no replay has released a byte, as its machine has written none.
 pub fn replays_release_what_is_written()
     ensures none_before { (p : Parts) (x : List ℕ)
         → ¬ IsReplay x (record (no_progress p) { released = 1 }) }
