@@ -119,7 +119,20 @@ def fault_of_typed(node, now, typed, keys):
     return None
 
 
-class Node:
+class Running:
+    """What has a process while it runs."""
+
+    process = None
+
+    def end(self):
+        """Kills the process if it runs."""
+        if self.process:
+            self.process.kill()
+            self.process.wait()
+            self.process = None
+
+
+class Node(Running):
     """A node: its process while it runs, its files, and what was typed at each of its starts, by
     the start's number."""
 
@@ -130,7 +143,6 @@ class Node:
         self.console = os.path.join(folder, f"console{number}")
         self.errors = os.path.join(folder, f"errors{number}")
         self.trace = None  # the path of its trace, if it writes one
-        self.process = None
         self.sent = bytearray()
         self.typed = {}
         open(self.console, "wb").close()
@@ -181,13 +193,6 @@ class Node:
             raise Broken(f"a fault of the test: node {self.number} could not take all keys")
         self.end()
         self.note_typed()
-
-    def end(self):
-        """Kills the process if it runs."""
-        if self.process:
-            self.process.kill()
-            self.process.wait()
-            self.process = None
 
     def note_typed(self):
         """Notes what was typed at the start that the record counted last."""

@@ -19,6 +19,12 @@ class Broken(AssertionError):
     """Something does not hold."""
 
 
+def check(holds, what):
+    """Raises Broken with the text `what` unless `holds` is true."""
+    if not holds:
+        raise Broken(what)
+
+
 def provide(name):
     """Ends the script `name` with status 2 if the program is missing. It is the one that PGROUP
     names, or else the one that ./run provides."""

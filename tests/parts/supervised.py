@@ -9,7 +9,7 @@ from shared.words import text_of
 
 from .echo_code import ECHO
 from .files import bytes_of, file_with
-from .group import await_that
+from .group import Running, await_that
 from .program import PROGRAM, Broken
 from .scripts import path_of, run, session_of
 
@@ -24,7 +24,7 @@ def send_signal(pid, number):
         pass
 
 
-class Supervised:
+class Supervised(Running):
     """A node of the echo under a supervisor, and their files in a folder."""
 
     def __init__(self, number, folder, nodes, beats, keys, silent=3.0, around=()):
@@ -37,7 +37,6 @@ class Supervised:
         self.record = os.path.join(folder, f"record{number}")
         self.console = os.path.join(folder, f"console{number}")
         self.errors = os.path.join(folder, f"errors{number}")
-        self.process = None
         # How much of what they say was read, and how many starts of the node that has.
         self.read = self.started = 0
         lines = f"--file {ECHO}  # the echo\n--id {number} --size {len(nodes)}\n"
@@ -106,9 +105,7 @@ class Supervised:
     def kill(self):
         """Kills the supervisor, if it runs. Its node has to end with it."""
         if self.process:
-            self.process.kill()
-            self.process.wait()
-            self.process = None
+            self.end()
             await_that(self.is_down, f"node {self.number} ends with its supervisor", 20)
 
     def terminate(self):
@@ -116,12 +113,6 @@ class Supervised:
         self.process.terminate()
         await_that(lambda: self.process.poll() is not None, "the supervisor has ended")
         return self.process.returncode
-
-    def end(self):
-        if self.process:
-            self.process.kill()
-            self.process.wait()
-            self.process = None
 
 
 def last_leader(group):

@@ -4,8 +4,8 @@ ghost use Rattle.paxos_msg.specs.declared.limits.TheConstants.{MOST_VOTES};
 ghost use Rattle.paxos_msg.specs.Bodies.{HasUpTo};
 
 use digits::{HexError, hex_bytes};
-use machine_run::RunIo;
-use paxos_msg::{Ballot, BodyView, Group, LentVotes, View, Vote, WireFault, decode};
+use machine_run::IoFault;
+use paxos_msg::{Ballot, BodyView, Group, LentVotes, Value, View, Vote, WireFault, decode};
 use std::alloc::Global;
 use std::io::{self, Write};
 
@@ -17,7 +17,7 @@ pub enum ShowFault {
     /// The bytes are no datagram of the group.
     Datagram(WireFault),
     /// Memory ran out, or the write failed.
-    Run(RunIo),
+    Run(IoFault),
 }
 
 /// Writes the line of a vote.
@@ -50,6 +50,21 @@ fn write_promise<W: Write>(
     Ok(())
 }
 
+/// Writes the line of an accept or an accepted. `word` says which.
+fn write_accept<W: Write>(
+    writer: &mut W,
+    word: &str,
+    sender: u8,
+    ballot: Ballot,
+    place: u32,
+    value: Value,
+) -> io::Result<()> {
+    writeln!(
+        writer,
+        "{word} from {sender} ballot {ballot} place {place} {value}"
+    )
+}
+
 /// Writes the line of a message, and a line for each vote of a promise.
 fn write_message<W: Write>(writer: &mut W, view: &View<'_>) -> io::Result<()>
     requires { HasUpTo MOST_VOTES (view.now).body }
@@ -69,25 +84,19 @@ fn write_message<W: Write>(writer: &mut W, view: &View<'_>) -> io::Result<()>
             ballot,
             place,
             value,
-        } => writeln!(
-            writer,
-            "accept from {sender} ballot {ballot} place {place} {value}"
-        ),
+        } => write_accept(writer, "accept", sender, *ballot, *place, *value),
         BodyView::Accepted {
             ballot,
             place,
             value,
-        } => writeln!(
-            writer,
-            "accepted from {sender} ballot {ballot} place {place} {value}"
-        ),
+        } => write_accept(writer, "accepted", sender, *ballot, *place, *value),
         BodyView::Refused { ballot, promised } => {
             writeln!(
                 writer,
                 "refused from {sender} ballot {ballot} promised {promised}"
             )
         }
-        BodyView::Submit { key } => writeln!(writer, "submit from {sender} {key}"),
+        BodyView::Submit { value } => writeln!(writer, "submit from {sender} {value}"),
         BodyView::Ask { from } => writeln!(writer, "ask from {sender} place {from}"),
         BodyView::Tell { place, value } => {
             writeln!(writer, "tell from {sender} place {place} {value}")
@@ -106,10 +115,10 @@ pub fn show<W: Write>(
     let bytes = match hex_bytes(alloc, digits) {
         Ok(bytes) => bytes,
         Err(HexError::Bad) => return Err(ShowFault::BadHex),
-        Err(HexError::Memory) => return Err(ShowFault::Run(RunIo::Memory)),
+        Err(HexError::Memory) => return Err(ShowFault::Run(IoFault::Memory)),
     };
     match decode(bytes.as_slice(), group) {
         Err(fault) => Err(ShowFault::Datagram(fault)),
-        Ok(view) => write_message(writer, &view).or(Err(ShowFault::Run(RunIo::Write))),
+        Ok(view) => write_message(writer, &view).or(Err(ShowFault::Run(IoFault::Write))),
     }
 }

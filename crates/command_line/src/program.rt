@@ -3,7 +3,7 @@ use crate::codes::CODES;
 use crate::commands::perform;
 use crate::conclusion::{BAD_WORDS, Conclusion, DONE, Refusal, conclude, refuse};
 use command_words::{DEFAULT_STEPS, NotAsked, asked_of};
-use machine_run::{MachineRefusal, RunIo, run_built_in};
+use machine_run::{IoFault, MachineRefusal, run_built_in};
 use std::io::{self, Read, Write};
 use std::net::Net;
 use std::rt::{Env, Files};
@@ -16,21 +16,21 @@ const VERSION: &str = "0.8.0";
 fn status_of<E: Write>(errors: &mut E, written: io::Result<()>) -> u8 {
     match written {
         Ok(()) => DONE,
-        Err(_) => refuse(errors, Refusal::Machine(MachineRefusal::Run(RunIo::Write))),
+        Err(_) => refuse(
+            errors,
+            Refusal::Machine(MachineRefusal::Run(IoFault::Write)),
+        ),
     }
 }
 
 /// Writes the text that these words ask for beside the commands: the version, or the table of
 /// codes. Returns the status, or `None` where they ask for something else.
 fn tell<W: Write, E: Write>(writer: &mut W, errors: &mut E, words: &[String]) -> Option<u8> {
-    let (first, second) = match words {
-        [first] => (first.as_str(), ""),
-        [first, second] => (first.as_str(), second.as_str()),
-        _ => return None,
-    };
-    let written = match (first, second) {
-        ("--version", "") => writeln!(writer, "pgroup {VERSION}"),
-        ("help", "codes") => write!(writer, "{CODES}"),
+    let written = match words {
+        [word] if word.as_str() == "--version" => writeln!(writer, "pgroup {VERSION}"),
+        [first, second] if first.as_str() == "help" && second.as_str() == "codes" => {
+            write!(writer, "{CODES}")
+        }
         _ => return None,
     };
     Some(status_of(errors, written))
@@ -47,7 +47,10 @@ pub fn explain<W: Write, E: Write>(writer: &mut W, errors: &mut E, reason: NotAs
             let _ = write!(errors, "{fault}");
             BAD_WORDS
         }
-        NotAsked::Memory => refuse(errors, Refusal::Machine(MachineRefusal::Run(RunIo::Memory))),
+        NotAsked::Memory => refuse(
+            errors,
+            Refusal::Machine(MachineRefusal::Run(IoFault::Memory)),
+        ),
     }
 }
 

@@ -9,8 +9,8 @@ use Rattle.group_protocol.specs.declared.fault.NodeFault.TheVariants as fault
 use Rattle.group_protocol.specs.declared.limits.TheConstants.{MOST_WAITING}
 use Rattle.group_protocol.specs.Known.{Response, Known, front, new_key, next_serial, on_start, on_typed}
 use Rattle.group_protocol.specs.ProposerRows.{last_round, on_campaign}
-use Rattle.group_node.specs.Output.{Progress}
-use Rattle.group_node.specs.States.{NodeState}
+use Rattle.group_node.specs.Output.{Progress, unreleased_of}
+use Rattle.group_node.specs.States.{NodeState, input}
 
 -- A node that is up: what it knows, and the progress of its machine.
 pub record Running : Type 0 where
@@ -20,6 +20,10 @@ pub record Running : Type 0 where
 -- A node of the code as a node that is up.
 abbrev pub running : {S : Type 0} → NodeState S → Running
 running n = record { known = n.protocol.known; progress = n.progress }
+
+-- The output bytes of a node that wait, on its learned input.
+abbrev pub unreleased_by : Running → List ℕ
+unreleased_by w = unreleased_of (input w.known) w.progress
 
 -- A call of a node before its save: a refusal, or a response and the keys that were typed.
 pub data NodeCall : Type 0 where

@@ -59,9 +59,9 @@ pub record StartsByLoad {S : Type 0} (kind : StoreKind S) (me : Me) (store : S)
   pub loads : kind.loads store answer left
   pub starts : StartsAfter kind me answer left result
 
--- A node that has just started: not stopped, in its ranges, and its machine has made no step.
-pub record IsFresh {S : Type 0} (me : Me) (program : Parts) (n : NodeState S) : Type 0 where
-  pub begins : (kept : Record) × (n.protocol.known ≡ (on_start me kept).node)
+-- What holds of a node that has just started, beside what it knows: it is not stopped, it is in its
+-- ranges, and its machine has made no step and released nothing.
+pub record IsFresh {S : Type 0} (program : Parts) (n : NodeState S) : Type 0 where
   pub works : n.protocol.is_stopped ≡ false
   pub progress : n.progress ≡ no_progress program
   pub ranges : IsInRange n.protocol.known

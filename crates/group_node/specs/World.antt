@@ -20,7 +20,9 @@ use Rattle.paxos_learner.specs.Learner.{HasLearnedMore}
 use Rattle.paxos_learner.specs.Input.{front_values, keys_in_order, learned_input}
 use Rattle.group_node.specs.Console.{offered}
 use Rattle.group_node.specs.Deeds.{Deed, Idle, Start, Hear, Press, Campaign, Tick, Run, Release, Crash}
+use Rattle.group_protocol.specs.Backs.{Backs}
 use Rattle.group_protocol.specs.Known.{Response, Known}
+use Rattle.group_protocol.specs.Ranges.{IsInRange}
 use Rattle.group_protocol.specs.WaitingKeys.{waiting_keys}
 use Rattle.group_protocol.specs.Steps.{messages_handed_out}
 
@@ -44,7 +46,6 @@ pub record Seat : Type 0 where
 -- typed, the oldest first.
 -- Source: Simple 2.1, asynchronous processes that may stop and restart.
 -- Allows: a group of any size.
--- Forbids: a message that is forgotten.
 pub record WorldState : Type 0 where
   pub program : Parts
   pub size : ℕ
@@ -58,6 +59,7 @@ fresh p = record { learned = empty; configuration = begin p; released = 0; waiti
 
 -- The change of a group at node `i` alone, which sends these messages, and at which these keys were
 -- typed.
+-- Forbids: a message that is forgotten.
 pub record ChangesOnly (w v : WorldState) (i : ℕ) (bodies : List Body)
     (keys : List Key) : Type 0 where
   pub program : v.program ≡ w.program
@@ -149,6 +151,7 @@ pub record Campaigns (w v : WorldState) (i : ℕ) : Type 0 where
   pub call : CallOrFall w v i (Some (change.Promise (record { round = round; node = i })))
 
 -- The typing of one more key.
+-- Allows: any serial; which one it is, `on_typed` says.
 pub record Presses (w v : WorldState) (i byte : ℕ) : Type 0 where
   pub key : Key
   pub node : key.node ≡ i
@@ -210,6 +213,7 @@ pub record Releases (w v : WorldState) (i : ℕ) : Type 0 where
   pub rest : ChangesOnly w v i [] []
 
 -- The crash of a node: it is down, and its record and its console stay.
+-- Allows: a crash of a node that is down, which changes nothing.
 -- Forbids: a console that is emptied by a crash.
 pub record Crashes (w v : WorldState) (i : ℕ) : Type 0 where
   pub left : v.seats i ≡ record (w.seats i) { up = None }
@@ -272,3 +276,11 @@ pub record Sits (w : WorldState) (n : Known) (c : Configuration) (k : ℕ)
     (console : List ℕ) : Type 0 where
   pub size : w.size ≡ n.me.group.size
   pub seat : w.seats n.me.node ≡ seat_of n c k console
+
+-- A node that sits in its group, with its machine and its console, is in its ranges, and is backed
+-- by what was sent and typed there.
+pub record IsSeated (w : WorldState) (n : Known) (c : Configuration) (k : ℕ)
+    (console : List ℕ) : Type 0 where
+  pub sits : Sits w n c k console
+  pub ranges : IsInRange n
+  pub backs : Backs w.sent w.typed n

@@ -3,8 +3,8 @@
 //! - `Node::start(alloc, &program, config, store)` starts a node over the stored record of its
 //! acceptor. `Config::new(node, size, session)?` is its place in the group.
 //! - `node.typed(byte)?`, `node.on_message(&view, &mut outbox)?`, `node.campaign(&mut outbox)?` and
-//! `node.tick(&mut outbox)?` are its events. Each saves first, at most once. Then it puts the
-//! packets that are to be sent into the outbox, from which `outbox.pop()` takes them.
+//! `node.tick(&mut outbox)?` are its calls. One that saves does so first, and once. All but `typed`
+//! then put the packets that are to be sent into the outbox, from which `outbox.pop()` takes them.
 //! - `node.run(steps)?` runs the program on the learned keys. `node.release()` returns its next
 //! output byte with its number, and `console.offer(number, byte)` shows it.
 //!

@@ -12,7 +12,8 @@ ghost use Rattle.group_protocol.specs.Protocol.{answer_to, NeedsMemory};
 ghost use Rattle.group_protocol.specs.Known.{on_typed, front, new_key};
 ghost use Rattle.group_protocol.specs.ProposerRows.{is_leading, own_ballot, on_campaign};
 ghost use Rattle.group_protocol.specs.Tick.{on_tick};
-ghost use Rattle.group_node.specs.Output.{IsReplay, no_progress, RunsOn, unreleased_of};
+ghost use Rattle.group_node.specs.NodeCalls.{running, unreleased_by};
+ghost use Rattle.group_node.specs.Output.{IsReplay, no_progress, RunsOn};
 ghost use Rattle.group_node.specs.Player.{IsPlayed, progress_of};
 ghost use Rattle.group_protocol.specs.Ranges.{IsInRange};
 ghost use Rattle.group_node.specs.Starting.{IsFresh, StartsByPlan, StartsHonestly, StartsByLoad};
@@ -98,7 +99,7 @@ impl<'a, S: Store> Node<'a, S> {
         store: S,
     ) -> Result<Node<'a, S>, StartRefused<S>>
         ensures once { StartsByLoad S.kind config store result }
-        ensures fresh { IfOk result (IsFresh config program.now) }
+        ensures fresh { IfOk result (IsFresh program.now) }
         ensures from { S.kind.honest → StartsHonestly S.kind config store result }
         ensures plan { StartsByPlan S.kind store result }
         ensures others { IfErr result (λ e. IsAmong (NodeFault.Memory ∷ NodeFault.Store
@@ -150,8 +151,8 @@ impl<'a, S: Store> Node<'a, S> {
 
     /// Takes the message `view`: changes and saves what `on_message` defines for its kind, and puts
     /// what that sends into `outbox`. Fails with `Stopped` if a save has failed, else with
-    /// `OutboxFull` if `outbox` is not empty, else with `Memory` or `Store`. `Memory` never comes
-    /// at a Refused, nor at a message that `NeedsMemory` lists as ignored.
+    /// `OutboxFull` if `outbox` is not empty, else with `Memory` or `Store`. `Memory` comes only
+    /// where the message may need some (`NeedsMemory`), and never at a Refused.
     ///
     /// `view` has a spelling in the node's group, as each message has that `decode` returns. After
     /// `Ok` the first waiting keys, up to one that is not below the known front, wait no more.
@@ -237,7 +238,7 @@ impl<'a, S: Store> Node<'a, S> {
     pub fn release(&mut self) -> Option<(u64, u8)>
         ensures value { result
             ≡ option_map (λ b. (self.old.progress.released, b))
-            (slice_get (unreleased_of (input self.old.protocol.known) self.old.progress) 0) }
+            (slice_get (unreleased_by (running self.old)) 0) }
         ensures some { OnSome result
             (self.new.progress ≡ record self.old.progress
             { released = self.old.progress.released + 1 }) }
@@ -252,8 +253,7 @@ impl<'a, S: Store> Node<'a, S> {
     /// written and that were not released. Each of these steps is one on the input that is learned
     /// now, from the program's beginning (`IsReplay`).
     pub fn unreleased(&self) -> usize
-        ensures count { result
-            ≡ length (unreleased_of (input self.now.protocol.known) self.now.progress) }
+        ensures count { result ≡ length (unreleased_by (running self.now)) }
         ensures replay { IsReplay (input self.now.protocol.known) self.now.progress }
     {
         run_is_after();

@@ -73,7 +73,7 @@ module _ (p : Parts) (me : Me) where
   does_given w v d _ h = tt
 
   fails_given : (w : Running) (d : Doing) (deed : Deed) → FailsDeed me w deed d → HearsGiven me.group d.given deed
-  fails_given w d (Hear m) (bytes, spells, given, silent) = (bytes, spells, rw given (first_in (Some bytes) []))
+  fails_given w d (Hear m) (bytes, spells, given, silent, saves) = (bytes, spells, rw given (first_in (Some bytes) []))
   fails_given w d _ h = tt
 
   all_given : (w v : Running) (doings : List Doing) → DoesAll me w doings v

@@ -15,8 +15,8 @@ use Rattle.group_node.specs.NodeCalls.{Running}
 use Rattle.group_wire.specs.Doings.{DoesAll, Doing}
 use Rattle.group_wire.specs.Process.{Process, started}
 use Rattle.group_world.specs.declared.event.Outcome.TheVariants.{Kept}
-use Rattle.group_world.specs.Processes.{Entry, IsCarried, entries_of}
-use Rattle.group_process.specs.Runs.{AreFirstRuns, AreRuns, Attempt, FailsToStart, GoesOn, HasRuns, IsAttempt, IsGroupLog, NodeRun, Starts, ends_by, entries_of_attempt, entry_by, record_left, silent_entry}
+use Rattle.group_world.specs.Processes.{Entry, IsCarried, entries_of, quiet_entry}
+use Rattle.group_process.specs.Runs.{AreFirstRuns, AreRuns, Attempt, FailsToStart, GoesOn, HasRuns, IsAttempt, IsGroupLog, NodeRun, Starts, ends_by, entries_of_attempt, entry_by, record_left}
 
 -- ---- lists
 
@@ -85,7 +85,7 @@ module _ (p : Parts) (me : Me) where
       → IsAttempt p me kept a rest → entries_of_attempt me a ≡ es ++ y ∷ fs → FrontOf (a ∷ rest) kept es
   cut_attempt kept (Starts run) others [] y fs any e = ([], tt, refl, tt)
   cut_attempt kept (Starts run) others (x ∷ es) y fs (read, h, last) e =
-      let start = silent_entry me.node (Start run.process.loaded) in
+      let start = quiet_entry me.node (Start run.process.loaded) in
       let head : x ≡ start = cc in
       let tail : es ++ y ∷ fs ≡ map (entry_by me.node Kept) run.process.doings ++ ends_by me run run.stand = cc in
       let (front, rest, whole, entries) = deeds_in_front run es y fs tail in

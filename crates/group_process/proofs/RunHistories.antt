@@ -5,8 +5,7 @@ use Rattle.std.proofs.lemmas.Bool.Decides.{nat_tests}
 use Rattle.std.proofs.lemmas.List.{append-nil, length-append}
 use Rattle.std.specs.List.{Contains}
 use Rattle.pcode_file.specs.Parts.{Parts}
-use Rattle.paxos_msg.specs.declared.record.Change.TheVariants as change
-use Rattle.paxos_msg.specs.Batches.{Change, Record}
+use Rattle.paxos_msg.specs.Batches.{Record}
 use Rattle.paxos_acceptor.specs.declared.me.Me.{Me}
 use Rattle.group_protocol.proofs.Elements.{first_in, rest_in}
 use Rattle.group_protocol.specs.Known.{Known, Response, on_start}
@@ -24,8 +23,8 @@ use Rattle.group_world.specs.Member.{Member, at_progress, member_after_call, mem
 use Rattle.group_node.specs.Deeds.{Campaign, Crash, Deed, Hear, Idle, Press, Release, Run, Start, Tick}
 use Rattle.group_world.specs.declared.event.Done.TheVariants.{Applied, Fell}
 use Rattle.group_world.specs.Deeds.{DoesDeed, EndsCall, Left}
-use Rattle.group_world.specs.Processes.{Entry, IsHistory, left_by}
-use Rattle.group_process.specs.Runs.{AreRuns, Attempt, FailsToStart, GoesOn, IsAttempt, IsOver, NodeRun, Stand, StandsWith, Starts, end_after, run_end, ends_by, entries_of_attempt, entry_by, failed_as, fall_of, fallen_record, kept_after, node_after, node_by, node_left, record_after, record_by, record_left, record_of, silent_entry, unsaved}
+use Rattle.group_world.specs.Processes.{Entry, IsHistory, left_by, quiet_entry}
+use Rattle.group_process.specs.Runs.{AreRuns, Attempt, FailsToStart, GoesOn, IsAttempt, IsOver, NodeRun, Stand, StandsWith, Starts, run_end, ends_by, entries_of_attempt, entry_by, failed_as, kept_after, record_after, node_after, node_by, node_left, record_by, record_left, record_of}
 use Rattle.group_wire.specs.Process.{started}
 
 -- the node is up, with the record that it knows; its console was so before its run, or is no longer
@@ -38,11 +37,11 @@ record IsAt (shown : List ℕ) (w : Running) (m : Member) : Type 0 where
 -- ---- calls
 
 -- a call whose save fails, which leaves the changed record or the old one
-call_falls : (me : Me) (m : Member) (progress : Progress) (call : NodeCall) (made : Response) (c : Change) (is_kept : Bool) (e : Entry)
-    (kept : Record) → m.kept ≡ kept → call ≡ Makes made [] → made.saves ≡ Some c → (e.sent ≡ []) × (e.typed ≡ [])
+call_falls : (me : Me) (m : Member) (progress : Progress) (call : NodeCall) (made : Response) (is_kept : Bool) (e : Entry)
+    (kept : Record) → m.kept ≡ kept → call ≡ Makes made [] → made.saves ≢ None → (e.sent ≡ []) × (e.typed ≡ [])
     → EndsCall me m progress (plan_of (failed_as is_kept)) call
     (left_by e Fell (member_after_fall m (if is_kept then made.node.kept else kept)))
-call_falls me m progress call made c is_kept e kept had is saves (sends, types) = grind arith
+call_falls me m progress call made is_kept e kept had is saves (sends, types) = grind arith
 
 campaign_makes : (n : Known) → IsMade (call_of_campaign n) → call_of_campaign n ≡ Makes (on_campaign n) []
 campaign_makes n made = grind (arith, nat_tests)
@@ -115,42 +114,37 @@ module _ (p : Parts) (me : Me) where
 
   -- a start
   start_is_entry : (m : Member) (loaded : Record) → loaded.starts ≢ 4294967295 → m.node ≡ None → loaded ≡ m.kept
-      → (new : Member) × DoesDeed p me m None (Start loaded) (left_by (silent_entry me.node (Start loaded)) Applied new)
+      → (new : Member) × DoesDeed p me m None (Start loaded) (left_by (quiet_entry me.node (Start loaded)) Applied new)
       × IsAt m.console (started p me loaded) new
   start_is_entry m loaded spare down read = grind arith
 
-  -- an end without a failed save
-  crash_ends : {shown : List ℕ} (w : Running) (m : Member) → IsAt shown w m
-      → IsHistory p me m (silent_entry me.node Crash ∷ []) (member_after_fall m w.known.kept)
-  crash_ends w m at = (member_after_fall m m.kept, (Applied, (w, at.up, refl)), rw at.kept refl)
-
   -- a deed that is this call, and whose save fails
   deed_falls : {shown : List ℕ} (w : Running) (m : Member) (d : Doing) (is_kept : Bool) (call : Known → NodeCall) (made : Response)
-      (c : Option Change) → IsAt shown w m
-      → ((plan : Option Bool) (left : Left) → Calls m plan call left → DoesDeed p me m plan d.deed left)
-      → call w.known ≡ Makes made [] → made.saves ≡ c → SendsNothing d
-      → IsHistory p me m (fall_of me.node is_kept d c) (member_after_fall m (fallen_record is_kept w.known made c))
-  deed_falls w m d is_kept call made None at does is saves silent = crash_ends w m at
-  deed_falls w m d is_kept call made (Some c) at does is saves silent =
+      → IsAt shown w m → ((plan : Option Bool) (left : Left) → Calls m plan call left → DoesDeed p me m plan d.deed left)
+      → call w.known ≡ Makes made [] → made.saves ≢ None → SendsNothing d
+      → IsHistory p me m (run_end me.node is_kept (Some d))
+      (member_after_fall m (if is_kept then made.node.kept else w.known.kept))
+  deed_falls w m d is_kept call made at does is saves silent =
       let e = entry_by me.node (failed_as is_kept) d in
-      let ends = call_falls me m w.progress (call w.known) made c is_kept e w.known.kept at.kept is saves silent in
-      (member_after_fall m (fallen_record is_kept w.known made (Some c)), (Fell, does _ _ (w, at.up, ends)), refl)
+      let ends = call_falls me m w.progress (call w.known) made is_kept e w.known.kept at.kept is saves silent in
+      (member_after_fall m (if is_kept then made.node.kept else w.known.kept), (Fell, does _ _ (w, at.up, ends)), refl)
 
   -- a deed whose save fails
   fail_ends : {shown : List ℕ} (w : Running) (m : Member) (d : Doing) (is_kept : Bool) (deed : Deed) → IsAt shown w m → d.deed ≡ deed
       → FailsDeed me w deed d
-      → IsHistory p me m (end_after me.node is_kept d (unsaved w.known deed))
-      (member_after_fall m (record_after is_kept w.known (unsaved w.known deed)))
-  fail_ends w m d is_kept (Hear x) at is (bytes, spelled, given, silent) =
-      deed_falls w m d is_kept (λ n. Makes (on_message n x.sender x.body) []) _ _ at (λ plan left calls. rw is calls) refl refl silent
+      → IsHistory p me m (run_end me.node is_kept (Some d))
+      (member_after_fall m (if is_kept then record_after w.known deed else w.known.kept))
+  fail_ends w m d is_kept (Hear x) at is (bytes, spelled, given, silent, saves) =
+      deed_falls w m d is_kept (λ n. Makes (on_message n x.sender x.body) []) _ at (λ plan left calls. rw is calls) refl saves silent
   fail_ends w m d is_kept Campaign at is (made, given, silent) =
-      deed_falls w m d is_kept call_of_campaign _ _ at (λ plan left calls. rw is calls) (campaign_makes w.known made) refl silent
+      deed_falls w m d is_kept call_of_campaign _ at (λ plan left calls. rw is calls) (campaign_makes w.known made)
+      (λ none. absurd cc) silent
   fail_ends w m d is_kept deed at is fails = absurd fails
 
   end_is_entry : {shown : List ℕ} (w : Running) (m : Member) (is_kept : Bool) (failed : Option Doing) → IsAt shown w m
       → IfSome failed (λ d. FailsDeed me w d.deed d)
-      → IsHistory p me m (run_end me.node w is_kept failed) (member_after_fall m (record_of w is_kept failed))
-  end_is_entry w m is_kept None at fails = crash_ends w m at
+      → IsHistory p me m (run_end me.node is_kept failed) (member_after_fall m (record_of w is_kept failed))
+  end_is_entry w m is_kept None at fails = (member_after_fall m m.kept, (Applied, (w, at.up, refl)), rw at.kept refl)
   end_is_entry w m is_kept (Some d) at fails = fail_ends w m d is_kept d.deed at refl fails
 
   -- an end, or none
@@ -187,7 +181,8 @@ module _ (p : Parts) (me : Me) where
   attempt_is_history m (FailsToStart loaded is_kept) rest down (read, spare) =
       let e : Entry = record { node = me.node; deed = Start loaded; save = failed_as is_kept; sent = []; typed = [] } in
       let makes = start_makes me loaded spare in
-      let ends = call_falls me m (no_progress p) _ (on_start me loaded) change.Start is_kept e loaded (sym read) makes refl (refl, refl) in
+      let ends = call_falls me m (no_progress p) _ (on_start me loaded) is_kept e loaded (sym read) makes (λ none. absurd cc)
+      (refl, refl) in
       let fallen = member_after_fall m (record_left (FailsToStart loaded is_kept)) in
       (fallen, (fallen, (Fell, (down, read, ends)), refl), record { record_is = refl; node_is = refl }, inl refl)
 

@@ -13,8 +13,8 @@ use Rattle.group_wire.specs.Arrivals.{Spells}
 use Rattle.group_wire.specs.Doings.{Doing}
 use Rattle.group_wire.specs.Traffic.{Letter, letters_of}
 use Rattle.group_world.specs.declared.event.Outcome.TheVariants.{Kept}
-use Rattle.group_world.specs.Processes.{Entry}
-use Rattle.group_process.specs.Runs.{AreRuns, Attempt, FailsToStart, IsGroupLog, NodeRun, Starts, ends_by, entries_of_attempt, entry_by, silent_entry}
+use Rattle.group_world.specs.Processes.{Entry, quiet_entry}
+use Rattle.group_process.specs.Runs.{AreRuns, Attempt, FailsToStart, IsGroupLog, NodeRun, Starts, ends_by, entries_of_attempt, entry_by}
 
 -- An entry with what a receive gave for it.
 pub record GivenEntry : Type 0 where
@@ -41,7 +41,7 @@ given_for (Some d) = d.given
 -- A run as entries of its node with what receives gave.
 abbrev pub received_in_run : Me → NodeRun → List GivenEntry
 received_in_run me run =
-    unreceived (silent_entry me.node (Start run.process.loaded))
+    unreceived (quiet_entry me.node (Start run.process.loaded))
     ∷ (map (received_at me.node) run.process.doings
     ++ map (with_given (given_for run.process.failed)) (ends_by me run run.stand))
 

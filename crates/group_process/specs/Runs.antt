@@ -5,12 +5,12 @@ use Rattle.pcode_file.specs.Parts.{Parts}
 use Rattle.pcode_machine.specs.Runs.{IsPrefix}
 use Rattle.paxos_msg.specs.declared.limits.TheConstants.{LAST_START}
 use Rattle.paxos_msg.specs.declared.message.Group.{Group}
-use Rattle.paxos_msg.specs.Batches.{Change, Record}
+use Rattle.paxos_msg.specs.Batches.{Record}
 use Rattle.paxos_msg.specs.Fits.{IsGroup, IsNode}
 use Rattle.paxos_msg.specs.declared.record.Change.TheVariants as change
 use Rattle.paxos_msg.specs.Records.{changed, empty_record}
 use Rattle.paxos_acceptor.specs.declared.me.Me.{Me}
-use Rattle.group_protocol.specs.Known.{Known, Response}
+use Rattle.group_protocol.specs.Known.{Known}
 use Rattle.group_protocol.specs.Protocol.{on_message}
 use Rattle.group_protocol.specs.ProposerRows.{on_campaign}
 use Rattle.group_protocol.specs.States.{IsSize}
@@ -25,7 +25,7 @@ use Rattle.group_world.specs.declared.event.Outcome.TheVariants.{FailedNew, Fail
 use Rattle.group_world.specs.Group.{member_at, new_world, world_state}
 use Rattle.group_world.specs.Member.{Member}
 use Rattle.group_node.specs.Deeds.{Campaign, Crash, Deed, Hear, Start}
-use Rattle.group_world.specs.Processes.{Entry, IsCarried, IsHistory, IsLog, after_log, entries_of}
+use Rattle.group_world.specs.Processes.{Entry, IsCarried, IsHistory, IsLog, after_log, entries_of, quiet_entry}
 
 -- ---- as entries
 
@@ -34,51 +34,27 @@ abbrev pub entry_by : ℕ → Outcome → Doing → Entry
 entry_by node save d =
     record { node = node; deed = d.deed; save = save; sent = d.sent; typed = d.typed }
 
--- An entry at which nothing is sent or typed.
-abbrev pub silent_entry : ℕ → Deed → Entry
-silent_entry node deed = record { node = node; deed = deed; save = Kept; sent = []; typed = [] }
-
--- The response whose save a deed failed to make.
-abbrev pub unsaved : Known → Deed → Option Response
-unsaved n (Hear m) = Some (on_message n m.sender m.body)
-unsaved n Campaign = Some (on_campaign n)
-unsaved n _ = None
-
 -- The outcome of a save that failed.
 abbrev pub failed_as : Bool → Outcome
 failed_as is_kept = if is_kept then FailedNew else FailedOld
 
--- The end of a process at a failed save: its store has the changed record or the old one. Where the
--- response saves nothing, the process has ended without one.
-abbrev pub fall_of : ℕ → Bool → Doing → Option Change → List Entry
-fall_of node is_kept d None = silent_entry node Crash ∷ []
-fall_of node is_kept d (Some c) = entry_by node (failed_as is_kept) d ∷ []
+-- The end of a process: it was killed, or its save failed at a deed; then its store has the changed
+-- record or the old one.
+abbrev pub run_end : ℕ → Bool → Option Doing → List Entry
+run_end node is_kept None = quiet_entry node Crash ∷ []
+run_end node is_kept (Some d) = entry_by node (failed_as is_kept) d ∷ []
 
--- The end of a process at a deed whose save failed, by the response of that deed. Where the deed
--- has none, the process has ended without a save.
-abbrev pub end_after : ℕ → Bool → Doing → Option Response → List Entry
-end_after node is_kept d None = silent_entry node Crash ∷ []
-end_after node is_kept d (Some made) = fall_of node is_kept d made.saves
-
--- The end of a process whose node was `last`: it was killed, or its save failed at a deed.
-abbrev pub run_end : ℕ → Running → Bool → Option Doing → List Entry
-run_end node last is_kept None = silent_entry node Crash ∷ []
-run_end node last is_kept (Some d) = end_after node is_kept d (unsaved last.known d.deed)
-
--- The record that a failed save leaves: the changed one or the old one.
-abbrev pub fallen_record : Bool → Known → Response → Option Change → Record
-fallen_record is_kept n made None = n.kept
-fallen_record is_kept n made (Some c) = if is_kept then made.node.kept else n.kept
-
--- The record that the end at a deed leaves, by the response of that deed.
-abbrev pub record_after : Bool → Known → Option Response → Record
-record_after is_kept n None = n.kept
-record_after is_kept n (Some made) = fallen_record is_kept n made made.saves
+-- The record of a node that is up after a deed: only a message or a campaign may change it.
+abbrev pub record_after : Known → Deed → Record
+record_after n (Hear m) = (on_message n m.sender m.body).node.kept
+record_after n Campaign = (on_campaign n).node.kept
+record_after n _ = n.kept
 
 -- The record at the end of a process whose node was `last`.
 abbrev pub record_of : Running → Bool → Option Doing → Record
 record_of last is_kept None = last.known.kept
-record_of last is_kept (Some d) = record_after is_kept last.known (unsaved last.known d.deed)
+record_of last is_kept (Some d) =
+    if is_kept then record_after last.known d.deed else last.known.kept
 
 -- ---- runs, one after the other
 
@@ -97,12 +73,12 @@ pub record NodeRun : Type 0 where
 -- The entries of the end of a run, if it is over.
 abbrev pub ends_by : Me → NodeRun → Stand → List Entry
 ends_by me run GoesOn = []
-ends_by me run (IsOver is_kept) = run_end me.node run.last is_kept run.process.failed
+ends_by me run (IsOver is_kept) = run_end me.node is_kept run.process.failed
 
 -- A run as entries of its node.
 abbrev pub entries_of_run : Me → NodeRun → List Entry
 entries_of_run me run =
-    silent_entry me.node (Start run.process.loaded)
+    quiet_entry me.node (Start run.process.loaded)
     ∷ (map (entry_by me.node Kept) run.process.doings ++ ends_by me run run.stand)
 
 -- The record that a run leaves.
@@ -112,7 +88,7 @@ record_by run (IsOver is_kept) = record_of run.last is_kept run.process.failed
 
 -- The node that a run leaves, if it is up.
 abbrev pub node_by : NodeRun → Stand → Option Running
-node_by run GoesOn = Some (run.last)
+node_by run GoesOn = Some run.last
 node_by run (IsOver is_kept) = None
 
 -- A start of a node's process: it runs; or the save of its start over this record fails, and its

@@ -2,8 +2,6 @@ pub mod Elements
 mod PacketsFit
 mod ByCases
 mod Sending
-mod Campaigning
-mod Leaving
 mod Places
 mod Pumping
 mod NodeBackedAsMoreIsSent

@@ -37,10 +37,6 @@ pub record IsQuiet (me : ℕ) (r : Record) (sent more : Sent) : Type 0 where
 sent_still : (sent more : Sent) (i : ℕ) (body : Body) → IsSent sent i body → IsSent (sent ++ more) i body
 sent_still sent more i body h = grind (arith, nat_tests, Contains-append_left)
 
--- what was said is said still
-pub said_still : (sent more : Sent) (body : Body) → IsSaid sent body → IsSaid (sent ++ more) body
-said_still sent more body h = grind (arith, nat_tests, sent_still)
-
 -- what was said after one message more was said before, or is what it says
 pub said_push : (sent : Sent) (j : ℕ) (body said : Body) → IsSaid (sent ++ record { sender = j; body = body } ∷ []) said
     → IsSaid sent said ⊎ (body ≡ said)

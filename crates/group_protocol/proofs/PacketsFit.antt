@@ -1,24 +1,25 @@
 -- Packets of a node in its ranges have a spelling, each by itself, also what its proposer proposes;
 -- and the proposer stays in its ranges.
-use Rattle.std.proofs.Common.{◌≡◌, ℕ, ◌<◌, List, [], ◌∷◌, ap, refl, length, take, Some, arith, zero, suc, Option, None, IfSome}
+use Rattle.std.proofs.Common.{◌≡◌, ℕ, List, [], ◌∷◌, ap, refl, length, take, Some, arith, zero, suc, Option, None, IfSome}
 use Rattle.std.proofs.lemmas.Bool.{cases_lt}
 use Rattle.std.proofs.lemmas.List.{get_or-take, get_or_past, length-take}
-use Rattle.std.specs.FinMap.{get}
 use Rattle.std.proofs.lemmas.Bool.Decides.{nat_tests}
 use Rattle.paxos_msg.specs.declared.value.Value.{Value}
-use Rattle.paxos_msg.specs.declared.value.Value.TheVariants.{Keys}
-use Rattle.paxos_msg.specs.declared.message.Body.TheVariants.{Submit, Tell, Prepare, Accept}
+use Rattle.paxos_msg.specs.declared.ballot.Ballot.{Ballot}
+use Rattle.paxos_msg.specs.declared.record.Change.TheVariants.{Promise}
+use Rattle.paxos_msg.specs.Records.{changed}
+use Rattle.paxos_acceptor.specs.Records.{IsRecord}
+use Rattle.paxos_msg.specs.declared.message.Body.TheVariants.{Submit, Accept}
 use Rattle.paxos_msg.specs.Bodies.{IsBody}
 use Rattle.paxos_msg.specs.Fits.{IsValue, AreBytes}
-use Rattle.paxos_msg.specs.Keys.{AreOwnKeys, batches, keys_from, Key}
-use Rattle.group_protocol.specs.Known.{Known}
+use Rattle.paxos_msg.specs.Keys.{keys_from}
+use Rattle.group_protocol.specs.Known.{front, Known}
 use Rattle.group_protocol.specs.WaitingKeys.{batch_of}
 use Rattle.group_protocol.specs.Ranges.{IsInRange, AreFit, IsOwnProposer}
-use Rattle.paxos_msg.specs.Batches.{Body}
 use Rattle.paxos_acceptor.specs.declared.me.Me.{Me}
-use Rattle.paxos_proposer.specs.Proposer.{asks_on, next_of, next_value, Proposer, proposing}
+use Rattle.paxos_proposer.specs.Proposer.{new_proposer, next_of, next_value, Proposer, proposing}
 use Rattle.paxos_proposer.specs.States.{IsProposerInRange}
-use Rattle.group_protocol.specs.ProposerRows.{offer_after}
+use Rattle.group_protocol.specs.ProposerRows.{beginning, offer_after}
 use Rattle.group_protocol.specs.Packets.{Packet}
 use Rattle.group_protocol.specs.Pump.{offer, Proposals, propose, pump}
 use Rattle.group_protocol.proofs.WaitingKeys.{batch_typed}
@@ -29,10 +30,6 @@ use Rattle.group_protocol.proofs.WaitingKeys.{batch_typed}
 take_bytes : (n : ℕ) (bytes : List ℕ) → AreBytes bytes → AreBytes (take n bytes)
 take_bytes n bytes h i = grind (arith, nat_tests, cases_lt, get_or-take, length-take, get_or_past)
 
--- the keys of a node's batch are its own
-own_keys : (node start serial x : ℕ) (xs : List ℕ) → AreOwnKeys batches node (Keys node start serial (x ∷ xs))
-own_keys node start serial x xs = (batch_typed (keys_from node start serial (x ∷ xs)) node start serial x xs (λ key has. has)).own
-
 module _ (n : Known) (h : IsInRange n) where
   -- the Submit of the characters that wait, if there is one
   pub submit_fits : (bytes : List ℕ) → bytes ≡ n.waiting → (v : Value) → batch_of n bytes ≡ Some v
@@ -42,11 +39,9 @@ module _ (n : Known) (h : IsInRange n) where
       let few = length-take 31 xs in
       let many = ap length all in
       let are = take_bytes 32 (x ∷ xs) (rw all h.waiting.characters) in
-      grind (arith, few, many, are, own_keys n.me.node n.kept.starts n.first x (take 31 xs), h.waiting.fits)
-
-  -- the Tell of what is learned
-  pub tell_fits : (s : ℕ) (v : Value) → get n.learner.learned s ≡ Some v → IsBody n.me.group.size n.me.node (Tell s v)
-  tell_fits s v e = grind (arith, nat_tests)
+      let keys = keys_from n.me.node n.kept.starts n.first (x ∷ take 31 xs) in
+      let typed = batch_typed keys n.me.node n.kept.starts n.first x (take 31 xs) (λ key has. has) in
+      grind (arith, few, many, are, typed.own, h.waiting.fits)
 
 -- ---- proposals
 
@@ -59,33 +54,20 @@ pub record AcceptLaws : Type 0 where
       → IsBody p.size p.ballot.node (Accept p.ballot (next_of p) v)
 
 module _ (me : Me) (p : Proposer) (h : IsOwnProposer me p) where
-  -- its messages are the node's
-  pub own_body : (body : Body) → IsBody p.size p.ballot.node body → IsBody me.group.size me.node body
-  own_body body fits = grind (arith, nat_tests)
+  -- the Accept of its next proposal
+  pub next_fits : AcceptLaws → (offered : Option Value) (v : Value) → IfSome offered (IsValue me.group.size)
+      → next_value p offered ≡ Some v → IsBody me.group.size me.node (Accept p.ballot (next_of p) v)
+  next_fits laws offered v free e = grind (arith, nat_tests, laws.sends p offered v h.ranges (rw h.size free) e)
 
-  -- a Prepare under it, from any place that there is
-  pub own_prepare : (s : ℕ) → s < 65536 → IsBody me.group.size me.node (Prepare p.ballot s)
-  own_prepare s low = grind (arith, nat_tests)
+  -- it is the node's own still after its proposal
+  next_own : AcceptLaws → (offered : Option Value) → IfSome offered (IsValue me.group.size)
+      → IsOwnProposer me (proposing p (next_value p offered))
+  next_own laws offered free = grind (arith, nat_tests)
 
-  -- the Prepare after a part
-  pub asks_on_fits : (j first upto s : ℕ) → asks_on p j first upto ≡ Some s → IsBody me.group.size me.node (Prepare p.ballot s)
-  asks_on_fits j first upto s e = grind (arith, nat_tests)
-
-  module _ (laws : AcceptLaws) where
-    -- the Accept of its next proposal
-    pub next_fits : (offered : Option Value) (v : Value) → IfSome offered (IsValue me.group.size)
-        → next_value p offered ≡ Some v → IsBody me.group.size me.node (Accept p.ballot (next_of p) v)
-    next_fits offered v free e =
-        own_body (Accept p.ballot (next_of p) v) (laws.sends p offered v h.ranges (rw h.size free) e)
-
-    -- it is the node's own still after its proposal
-    pub next_own : (offered : Option Value) → IfSome offered (IsValue me.group.size) → IsOwnProposer me (proposing p (next_value p offered))
-    next_own offered free = grind (arith, nat_tests)
-
--- a node with another proposer of its own, whatever it has offered, is in its ranges
-pub led_range : (n : Known) → IsInRange n → {o : Option Proposer} {offered : List Key} → IfSome o (IsOwnProposer n.me)
-    → IsInRange (record n { proposer = o; offered = offered })
-led_range n h own = grind (arith, nat_tests)
+-- a node that begins an own ballot stays in its ranges, where the record and the proposer are in theirs
+pub beginning_fits : (n : Known) (b : Ballot) → IsInRange n → b.node ≡ n.me.node → IsRecord n.me.group.size (changed n.kept (Promise b))
+    → IsProposerInRange (new_proposer b (front n) n.me.group.size) → IsInRange (beginning n b).node
+beginning_fits n b h own kept begins = grind (arith, nat_tests)
 
 -- the packet of a node has a spelling
 abbrev pub IsPacketFit : Me → Packet → Type 0

@@ -1,10 +1,9 @@
 -- What places give, one after another, goes into an outbox.
-use Rattle.std.proofs.Common.{◌≡◌, ℕ, zero, suc, ◌+◌, ◌≤◌, List, ◌∷◌, ◌++◌, length, take, Option, refl, ap, arith, append_assoc}
+use Rattle.std.proofs.Common.{◌≡◌, ℕ, zero, suc, ◌+◌, ◌-◌, ◌≤◌, List, ◌++◌, length, take, Option, arith, append_assoc}
 use Rattle.std.proofs.lemmas.Bool.Decides.{nat_tests}
 use Rattle.std.specs.List.{filter_map, range_with_len}
 use Rattle.std.specs.Option.{option_to_list}
-use Rattle.std.proofs.lemmas.List.{map-append, take-append-le, take_all}
-use Rattle.std.proofs.lemmas.List.Elements.{filter_map-append}
+use Rattle.std.proofs.lemmas.List.{map-append, take_all}
 use Rattle.paxos_acceptor.specs.declared.me.Me.{Me}
 use Rattle.group_protocol.specs.Packets.{Datagram, Packet, datagrams_of}
 
@@ -17,18 +16,13 @@ one_more f a zero = grind (arith, nat_tests)
 one_more {X} f a (suc n) =
     grind (arith, one_more f (a + 1) n)
 
--- numbers in a row are fewer of them, and the rest
-range_parts : (a n m : ℕ) → n ≤ m → (rest : List ℕ) × (range_with_len a m ≡ range_with_len a n ++ rest)
-range_parts a zero m few = (range_with_len a m, refl)
-range_parts a (suc n) zero few = absurd (omega arith)
-range_parts a (suc n) (suc m) few = let parts = range_parts (a + 1) n m (omega arith) in (parts.0, ap (λ (l : List ℕ). a ∷ l) parts.1)
-
 -- the first of what this many places give are all that fewer of them give
 first_give : {X : Type 0} (f : ℕ → Option X) (a n m most : ℕ) → n ≤ m → length (filter_map f (range_with_len a n)) ≡ most
     → take most (filter_map f (range_with_len a m)) ≡ filter_map f (range_with_len a n)
-first_give f a n m most few full =
-    let parts = range_parts a n m few in
-    grind (arith, parts.1, filter_map-append f (range_with_len a n) parts.0, take-append-le, take_all)
+first_give f a zero m most few full = grind (arith, nat_tests)
+first_give f a (suc n) zero most few full = absurd (omega arith)
+first_give f a (suc n) (suc m) most few full =
+    grind (arith, nat_tests, first_give f (a + 1) n m most, first_give f (a + 1) n m (most - 1))
 
 -- ---- packets
 

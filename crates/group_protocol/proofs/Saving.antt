@@ -7,9 +7,7 @@ use Rattle.paxos_msg.specs.Batches.{Change, Record, Sent}
 use Rattle.paxos_msg.specs.Records.{changed, MaySave}
 use Rattle.paxos_acceptor.specs.Answers.{after}
 use Rattle.paxos_acceptor.specs.Records.{HasBackedVotes as IsVotesBacked}
-use Rattle.paxos_acceptor.specs.Stores.{IsOneOf}
 use Rattle.group_protocol.specs.Backs.{HasPromised, IsRecordBacked}
-use Rattle.group_protocol.specs.Steps.{IsSavedBy}
 
 -- The laws of the crates below: a save never lowers a promise, and keeps votes backed.
 pub record RecordLaws : Type 0 where
@@ -33,10 +31,3 @@ record_saved laws sent me r (Some change) h may = record {
   asked = λ b from mine said. promised_still laws sent r (Some change) b may (h.asked b from mine said);
   own = λ b s v mine said. promised_still laws sent r (Some change) b may (h.own b s v mine said);
 }
-
--- and where the save fails, whichever record it leaves
-pub left_backed : RecordLaws → (sent : Sent) (me : ℕ) (old new left : Record) (saves : Option Change)
-    → IsRecordBacked sent me old → IsSavedBy sent old saves new → IsOneOf left old new → IsRecordBacked sent me left
-left_backed laws sent me old new left None h same one = grind (arith, nat_tests)
-left_backed laws sent me old new left (Some change) h (may, is) one =
-    grind (arith, nat_tests, record_saved laws sent me old (Some change) h may)

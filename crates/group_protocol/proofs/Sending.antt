@@ -5,7 +5,6 @@ use Rattle.std.proofs.lemmas.Bool.Decides.{nat_tests}
 use Rattle.std.proofs.lemmas.List.{append-nil, map-append}
 use Rattle.std.proofs.lemmas.List.Elements.{All-head, All-tail, All-map, All-contains, All-weaker, Contains-append_cases}
 use Rattle.std.specs.FinMap.{get}
-use Rattle.paxos_msg.specs.declared.ballot.Ballot.{Ballot}
 use Rattle.paxos_msg.specs.declared.value.Value.{Value}
 use Rattle.paxos_msg.specs.declared.message.Body.TheVariants.{Accept, Prepare}
 use Rattle.paxos_msg.specs.Batches.{Body, MaySend, MaySendAll, Msg, Record, Sent, IsFree}
@@ -19,8 +18,6 @@ use Rattle.group_protocol.specs.Steps.{messages_handed_out, IsLawful}
 use Rattle.paxos_proposer.specs.Backed.{IsProposerBacked}
 use Rattle.paxos_proposer.specs.Proposer.{Proposer, next_of, next_value, proposing}
 use Rattle.group_protocol.specs.Pump.{accepts_of, offer, Proposals, propose, pump, stop}
-use Rattle.group_protocol.specs.declared.packet.To.{To}
-use Rattle.group_protocol.specs.Ranges.{IsInRange}
 use Rattle.group_protocol.proofs.NodeBackedAsMoreIsSent.{backs_later, BackingLaws, IsQuiet, learner_later, said_push}
 
 -- ---- packets that propose nothing new
@@ -145,10 +142,6 @@ pub record ProposingLaws : Type 0 where
 abbrev pub leading : Known → Proposer → Known
 leading n p = record n { proposer = Some p }
 
--- the promised ballot has been promised
-pub promised_same : (r : Record) (b : Ballot) → r.promised ≡ Some b → HasPromised r b
-promised_same r b e = grind (arith, nat_tests)
-
 -- proposals that may be sent, after which the node is backed, and its proposer is of its group
 pub record Proposes (typed : List Key) (n : Known) (sent : Sent) (proposals : Proposals) : Type 0 where
   pub goes : Goes (sender_of typed n) sent (accepts_of proposals.made) (leading n proposals.proposer)
@@ -217,39 +210,20 @@ pub led_lawful : {sent : Sent} {typed : List Key} {n : Known} {o : Option Propos
     (record { node = record n { proposer = o; offered = offered }; saves = None; sends = packets })
 led_lawful offered h goes = grind (arith, nat_tests)
 
--- a call that sends, and changes nothing
-pub sent_lawful : {sent : Sent} {typed : List Key} {n : Known} {packets : List Packet} → Backs sent typed n
-    → Goes (sender_of typed n) sent packets n
-    → IsLawful sent typed n.kept n.learner.learned (record { node = n; saves = None; sends = packets })
-sent_lawful {n = n} h goes = led_lawful n.offered h goes
-
 -- a call that does nothing
 pub quiet_lawful : {sent : Sent} {typed : List Key} {n : Known} → Backs sent typed n
     → IsLawful sent typed n.kept n.learner.learned (quiet n)
-quiet_lawful h = grind (arith, nat_tests, sent_lawful, append-nil)
+quiet_lawful h = grind (arith, nat_tests, append-nil)
 
 -- a proposer of the node's that is backed, and is of its group
 pub record IsSound (sent : Sent) (n : Known) (p : Proposer) : Type 0 where
   pub led : IsLeadingBacked sent n.me.node n.kept p
   pub size : p.size ≡ n.me.group.size
 
-module _ {sent : Sent} {typed : List Key} {n : Known} (h : Backs sent typed n) where
-  -- the node's proposer, if it has one, is backed and of its group
-  pub sound : IsInRange n → (p : Proposer) → n.proposer ≡ Some p → IsSound sent n p
-  sound ranges p e = grind (arith, nat_tests)
-
-  -- a node with such a proposer is backed
-  pub leading_backs : (p : Proposer) → IsSound sent n p → Backs sent typed (leading n p)
-  leading_backs p g = grind (arith, nat_tests)
-
-  -- its Prepares may be sent
-  pub prepare_stable : (p : Proposer) → IsSound sent n p → (to : To) (from : ℕ)
-      → IsStable (sender_of typed n) sent (record { to = to; body = Prepare p.ballot from })
-  prepare_stable p g to from = grind (arith, nat_tests)
-
-  -- packets that propose nothing new, and then a pump
-  pub then_pump : ProposingLaws → (p : Proposer) (before : List Packet) → IsSound sent n p → All (IsStable (sender_of typed n) sent) before
-      → Goes (sender_of typed n) sent (before ++ accepts_of (pump 16 p).made) (leading n (pump 16 p).proposer)
-  then_pump laws p before g stable =
-      let first = stable_goes laws.sending sent typed (leading n p) before (leading_backs p g) stable in
-      goes_on laws.sending first (pump_goes laws typed n 16 _ p g.size first.backs).goes
+-- packets that propose nothing new, and then a pump
+pub then_pump : {sent : Sent} {typed : List Key} {n : Known} → Backs sent typed n → ProposingLaws → (p : Proposer) (before : List Packet)
+    → IsSound sent n p → All (IsStable (sender_of typed n) sent) before
+    → Goes (sender_of typed n) sent (before ++ accepts_of (pump 16 p).made) (leading n (pump 16 p).proposer)
+then_pump {sent} {typed} {n} h laws p before g stable =
+    let first = stable_goes laws.sending sent typed (leading n p) before (grind (arith, nat_tests)) stable in
+    goes_on laws.sending first (pump_goes laws typed n 16 _ p g.size first.backs).goes

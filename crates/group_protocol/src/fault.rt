@@ -28,7 +28,7 @@ pub enum NodeFault {
     Size,
     /// The node is 0 or above the size.
     Id,
-    /// The record is out of its ranges.
+    /// The store has no record, or one that is out of its ranges.
     BadRecord,
     /// There were 4,294,967,295 starts.
     StartsSpent,

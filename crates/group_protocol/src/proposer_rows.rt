@@ -188,7 +188,7 @@ impl<S: Store> Protocol<S> {
         requires open { self.old.is_stopped ≡ false }
         requires empty { outbox.old.packets ≡ [] }
         ensures responds { DoesAndSaves S.kind (on_campaign self.old.known) self outbox result }
-        ensures spent { IsCampaignRefused self.old.known result }
+        ensures refuses { IsCampaignRefused self.old.known result }
         ensures others { FailsOnlyWith (NodeFault.RoundsSpent ∷ NodeFault.PlacesSpent
             ∷ NodeFault.Memory ∷ NodeFault.Store ∷ []) result }
     {

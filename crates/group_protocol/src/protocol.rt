@@ -110,8 +110,8 @@ impl<S: Store> Protocol<S> {
 
     /// Takes the message `view`: changes and saves what `on_message` defines for its kind, and puts
     /// what that sends into `outbox`. Fails with `Stopped` if a save has failed, else with
-    /// `OutboxFull` if `outbox` is not empty, else with `Memory` or `Store`. `Memory` never comes
-    /// at a Refused, nor at a message that `NeedsMemory` lists as ignored.
+    /// `OutboxFull` if `outbox` is not empty, else with `Memory` or `Store`. `Memory` comes only
+    /// where the message may need some (`NeedsMemory`), and never at a Refused.
     ///
     /// `view` has a spelling in the node's group, as each message has that `decode` returns. After
     /// `Ok` the first waiting keys, up to one that is not below the known front, wait no more.
@@ -338,7 +338,7 @@ impl<S: Store> Protocol<S> {
                 self.on_refused(*ballot, *promised);
                 Ok(())
             }
-            BodyView::Submit { key } => self.on_submit(key, outbox),
+            BodyView::Submit { value } => self.on_submit(value, outbox),
             BodyView::Ask { from } => self.on_ask(sender, *from, outbox),
             BodyView::Tell { place, value } => self.on_tell(*place, *value),
         }

@@ -12,7 +12,6 @@ use Rattle.paxos_msg.specs.declared.value.Value.TheVariants.{Noop, Keys}
 use Rattle.group_protocol.specs.Known.{front}
 use Rattle.group_world.specs.Group.{member_at, World}
 use Rattle.group_node.specs.NodeCalls.{Running}
-use Rattle.group_sim.specs.Texts.{node_at}
 
 -- ---- parts of a line
 
@@ -37,14 +36,18 @@ value_text (Keys node start first bytes) = keys_text node start first bytes
 
 -- ---- a node
 
+-- Node i, if it is up.
+abbrev pub node_at : World → ℕ → Option Running
+node_at w i = option_and_then (λ m. m.node) (member_at w.members i)
+
 -- The text of whether a node is up, and of its known front if it is.
 abbrev pub known_text : Option Running → List ℕ
 known_text None = codes " down known -"
 known_text (Some q) = numbered (codes " up known ") (front q.known)
 
 -- The ballot that the stored record of node i has promised.
-abbrev pub known_promise : World → ℕ → Option Ballot
-known_promise w i = option_and_then (λ m. m.kept.promised) (member_at w.members i)
+abbrev pub promised_by : World → ℕ → Option Ballot
+promised_by w i = option_and_then (λ m. m.kept.promised) (member_at w.members i)
 
 -- The text of a promised ballot, or of none.
 abbrev pub promised_text : Option Ballot → List ℕ
@@ -64,7 +67,7 @@ console_text (b ∷ bs) = codes " console " ++ hex_text (b ∷ bs)
 -- Allows: a node that is down, whose record and console are shown.
 abbrev pub node_line : World → ℕ → List ℕ
 node_line w i =
-    numbered (codes "node ") i ++ known_text (node_at w i) ++ promised_text (known_promise w i)
+    numbered (codes "node ") i ++ known_text (node_at w i) ++ promised_text (promised_by w i)
     ++ console_text (console_at w i) ++ codes "\n"
 
 -- ---- a place

@@ -1,15 +1,17 @@
 -- What a script does to a group and to a writer, line by line.
-use Rattle.std.specs.Prelude.{◌≡◌, ◌⊎◌, ℕ, zero, suc, ◌+◌, ◌-◌, ◌<◌, ◌≤◌, Bool, true, false, ◌&&◌, ◌==◌, List, length, slice_get, Option, Some, None, is_some, IfSome, IsNone, Result, Ok, Err, IfOk, OnErr}
+use Rattle.std.specs.Prelude.{◌≡◌, ◌⊎◌, ℕ, zero, suc, ◌+◌, ◌-◌, ◌<◌, ◌≤◌, codes, decimal, Bool, true, false, ◌&&◌, ◌==◌, List, [], ◌++◌, length, slice_get, Option, Some, None, is_some, option_map, unwrap_or, IfSome, IsNone, Result, Ok, Err, IfOk, OnErr}
 use Rattle.pcode_file.specs.Parts.{Parts}
+use Rattle.group_protocol.specs.declared.fault.NodeFault.{NodeFault}
+use Rattle.group_protocol.specs.Fault.{code_of}
 use Rattle.group_protocol.specs.declared.packet.To.{To}
 use Rattle.group_protocol.specs.declared.packet.To.TheVariants as whom
-use Rattle.group_node.specs.Output.{unreleased_of}
 use Rattle.group_protocol.specs.Packets.{Datagram}
 use Rattle.group_protocol.specs.States.{IsSize}
-use Rattle.group_node.specs.States.{input}
+use Rattle.group_node.specs.NodeCalls.{unreleased_by}
 use Rattle.group_world.specs.declared.event.Act.{Act}
 use Rattle.group_world.specs.declared.event.Act.TheVariants.{Deliver, Run, Release}
 use Rattle.group_world.specs.declared.event.Done.{Done}
+use Rattle.group_world.specs.declared.event.Done.TheVariants.{Applied, Refused, Fell}
 use Rattle.group_world.specs.declared.event.Event.{Event}
 use Rattle.group_world.specs.declared.fault.WorldFault.{WorldFault}
 use Rattle.group_world.specs.declared.fault.WorldFault.TheVariants as fault
@@ -18,18 +20,17 @@ use Rattle.group_world.specs.declared.script.Line.TheVariants as line
 use Rattle.group_world.specs.declared.script.Script.{Script}
 use Rattle.group_world.specs.Event.{Goes, kept_event}
 use Rattle.group_world.specs.Group.{World, new_world}
-use Rattle.group_node.specs.NodeCalls.{Running}
 use Rattle.group_world.specs.Refusals.{IsRefused}
 use Rattle.machine_run.specs.Streams.{Borrowed}
-use Rattle.machine_run.specs.declared.run.RunIo.{RunIo}
-use Rattle.machine_run.specs.declared.run.RunIo.TheVariants.{Write}
+use Rattle.machine_run.specs.declared.run.IoFault.{IoFault}
+use Rattle.machine_run.specs.declared.run.IoFault.TheVariants.{Write}
 use Rattle.group_sim.specs.declared.simulation.TheConstants.{DELIVERIES, SETTLE_STEPS}
+use Rattle.group_sim.specs.declared.simulation.Halted.{Halted}
 use Rattle.group_sim.specs.declared.simulation.ScriptHalt.{ScriptHalt}
 use Rattle.group_sim.specs.declared.simulation.ScriptHalt.TheVariants as halt
 use Rattle.group_sim.specs.declared.simulation.Simulation.{Simulation}
-use Rattle.group_sim.specs.declared.simulation.Stopped.{Stopped}
-use Rattle.group_sim.specs.Texts.{AppendsText, AppendsFront, Held, event_text, node_at, held}
-use Rattle.group_sim.specs.Groups.{group_text}
+use Rattle.group_sim.specs.Texts.{AppendsText, AppendsFront, Held, held}
+use Rattle.group_sim.specs.Groups.{group_text, node_at}
 
 -- A moment of a script.
 -- It has the group, the number of messages that the settles have passed, the number of deliveries
@@ -103,6 +104,16 @@ pub record LeavesFront (a : Moment) (world : World) (text : List ℕ) (b : Momen
   pub left : b.left ≡ a.left
   pub written : AppendsFront a.written b.written text
 
+-- The text of a node's refusal of an event of this line.
+abbrev pub refusal_text : ℕ → NodeFault → List ℕ
+refusal_text number f = codes "line " ++ decimal number ++ codes " node " ++ code_of f ++ codes "\n"
+
+-- The text of an event of this line: `line N node Dk` if its node refused it, else nothing.
+abbrev pub event_text : ℕ → Done → List ℕ
+event_text number (Refused f) = refusal_text number f
+event_text number Applied = []
+event_text number Fell = []
+
 -- An event of a line that happens or is refused.
 -- If it happens, a refusal of its node is written, or a prefix of it if the write fails. If the
 -- world refuses it, nothing has changed.
@@ -154,17 +165,17 @@ DeliversAll number size a (Ok x) b =
     × (length mid.world.sent ≤ a.passed + n) × (b ≡ record mid { passed = a.passed + n })
 DeliversAll number size a (Err h) b = (k : ℕ) × HaltsAt (PassesOn number size) a.passed k a h b
 
--- The number of bytes that wait at a node.
-abbrev pub waiting : Option Running → ℕ
-waiting None = 0
-waiting (Some q) = length (unreleased_of (input q.known) q.progress)
+-- The number of output bytes that node i has not released, 0 if it is not up.
+abbrev pub unreleased_count : World → ℕ → ℕ
+unreleased_count w i =
+    unwrap_or (option_map (λ q. length (unreleased_by q)) (node_at w i)) 0
 
--- The release of all output that waits at node i.
+-- The release of all output that node i has not released.
 abbrev pub ReleasesAll : ℕ → ℕ → Task
 ReleasesAll number i a r b =
-    InTurn (λ k. HappensAt number (kept_event (Release i))) 0 (waiting (node_at a.world i)) a r b
+    InTurn (λ k. HappensAt number (kept_event (Release i))) 0 (unreleased_count a.world i) a r b
 
--- The steps of node i, if it is up, and the release of all its output that waits.
+-- The steps of node i, if it is up, and the release of all output that it has not released.
 abbrev pub Plays : ℕ → ℕ → Task
 Plays number i a r b =
     ((is_some (node_at a.world i) ≡ false) × DoesNothing a r b)
@@ -190,7 +201,7 @@ Shows size a (Err halt.Unwritten) b = LeavesFront a a.world (group_text a.world 
 
 -- The task of a line of this number.
 abbrev pub Says : ℕ → ℕ → Line → Task
-Says size number (line.Act e) = HappensAt number e
+Says size number (line.Event e) = HappensAt number e
 Says size number line.Settle = Settles number size
 Says size number line.Show = Shows size
 
@@ -231,7 +242,7 @@ halt_of (Some f) = halt.Refused f
 halt_of None = halt.TooLong
 
 -- The answer of a script that halts at a line.
-abbrev pub halt_answer : ℕ → ScriptHalt → Result (Option Stopped) RunIo
+abbrev pub halt_answer : ℕ → ScriptHalt → Result (Option Halted) IoFault
 halt_answer number (halt.Refused f) = Ok (Some (record { line = number; fault = Some f }))
 halt_answer number halt.TooLong = Ok (Some (record { line = number; fault = None }))
 halt_answer number halt.Unwritten = Err Write
@@ -248,9 +259,9 @@ IsNoGroup size number f =
 -- line halted since a write failed.
 -- Forbids: a halt whose cause is made up, and a line that is done after it.
 pub record PerformsLines (w : World) (lines : List Line) (old new : Held)
-    (result : Result (Option Stopped) RunIo) : Type 0 where
+    (result : Result (Option Halted) IoFault) : Type 0 where
   pub done : IfOk result (λ answer. IsNone answer → IsScriptDone w lines old new)
-  pub stopped : IfOk result (λ answer. IfSome answer
-      (λ stopped. (IsNoGroup w.group.size stopped.line stopped.fault × (new ≡ old))
-      ⊎ IsHalted w lines stopped.line (halt_of stopped.fault) old new))
+  pub halted : IfOk result (λ answer. IfSome answer
+      (λ halted. (IsNoGroup w.group.size halted.line halted.fault × (new ≡ old))
+      ⊎ IsHalted w lines halted.line (halt_of halted.fault) old new))
   pub unwritten : OnErr result ((number : ℕ) × IsHalted w lines number halt.Unwritten old new)

@@ -1,16 +1,8 @@
--- The texts of refusals at a line of a script, what a failed write leaves of a text, and nodes.
-use Rattle.std.specs.Prelude.{ℕ, List, [], ◌++◌, Option, option_and_then, codes, decimal, ◌≡◌, Result, MatchResult}
+-- What a write of a text does.
+use Rattle.std.specs.Prelude.{◌≡◌, ℕ, List, ◌++◌, Option, Result, MatchResult}
 use Rattle.std.specs.Io.KnownBytes.{Appends}
 use Rattle.base.specs.Faults.{HasRisen}
 use Rattle.machine_run.specs.Streams.{Borrowed}
-use Rattle.group_protocol.specs.declared.fault.NodeFault.{NodeFault}
-use Rattle.group_protocol.specs.Fault.{code_of}
-use Rattle.group_world.specs.declared.event.Done.{Done}
-use Rattle.group_world.specs.declared.event.Done.TheVariants.{Applied, Refused, Fell}
-use Rattle.group_world.specs.Group.{member_at, World}
-use Rattle.group_node.specs.NodeCalls.{Running}
-
--- ---- what is written
 
 -- What is known of a writer: the bytes that it holds, where they are known, and how many of its
 -- writes have failed or taken nothing.
@@ -46,21 +38,3 @@ abbrev pub PutsText : {W E : Type 0} → (W → Option (List ℕ)) → (W → �
     → Result (Unit {0}) E → List ℕ → Type 0
 PutsText contents faults writer r text =
     WritesText (held contents faults writer.entry.now) r (held contents faults writer.exit.now) text
-
--- ---- what a node refuses
-
--- The text of a node's refusal of an event of this line.
-abbrev pub refusal_text : ℕ → NodeFault → List ℕ
-refusal_text line f = codes "line " ++ decimal line ++ codes " node " ++ code_of f ++ codes "\n"
-
--- The text of an event of this line: `line N node Dk` if its node refused it, else nothing.
-abbrev pub event_text : ℕ → Done → List ℕ
-event_text line (Refused f) = refusal_text line f
-event_text line Applied = []
-event_text line Fell = []
-
--- ---- nodes
-
--- Node i, if it is up.
-abbrev pub node_at : World → ℕ → Option Running
-node_at w i = option_and_then (λ m. m.node) (member_at w.members i)

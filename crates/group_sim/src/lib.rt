@@ -17,4 +17,4 @@ mod text;
 
 pub use refusal::{LineFault, ScriptRefusal};
 pub use script_file::sim_file;
-pub use simulation::{Stopped, sim};
+pub use simulation::{Halted, sim};

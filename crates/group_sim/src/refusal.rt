@@ -1,5 +1,5 @@
 //! The refusals of the command `sim`.
-use crate::simulation::Stopped;
+use crate::simulation::Halted;
 use group_world::{ScriptFault, WorldFault};
 use machine_run::MachineRefusal;
 use thiserror::Error;
@@ -59,19 +59,19 @@ impl From<ScriptFault> for ScriptRefusal {
     }
 }
 
-impl From<Stopped> for ScriptRefusal {
+impl From<Halted> for ScriptRefusal {
     ghost use Rattle.std.specs.Prelude.{◌≡◌, None, Some};
     ghost use Rattle.group_world.specs.declared.fault.WorldFault.{WorldFault};
     ghost use Rattle.group_sim.specs.declared.refusal.LineFault.TheVariants.{TooLong, World};
     ghost use Rattle.group_sim.specs.declared.refusal.ScriptRefusal.TheVariants.{Line};
 
-    ghost from_gives = { λ stopped r.
-        ((fault : WorldFault) → stopped.fault ≡ Some fault → r ≡ Line stopped.line (World fault))
-        × (stopped.fault ≡ None → r ≡ Line stopped.line TooLong) };
+    ghost from_gives = { λ halted r.
+        ((fault : WorldFault) → halted.fault ≡ Some fault → r ≡ Line halted.line (World fault))
+        × (halted.fault ≡ None → r ≡ Line halted.line TooLong) };
 
-    fn from(stopped: Stopped) -> ScriptRefusal {
-        let line = stopped.line;
-        let fault = match stopped.fault {
+    fn from(halted: Halted) -> ScriptRefusal {
+        let line = halted.line;
+        let fault = match halted.fault {
             Some(fault) => LineFault::World(fault),
             None => LineFault::TooLong,
         };

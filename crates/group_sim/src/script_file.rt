@@ -27,6 +27,6 @@ pub fn sim_file<H: Files + AllocGlobal, W: Write>(
     let mut writer = Counting::new(writer);
     match sim(rt.alloc(), &program, &script, &mut writer).map_err(MachineRefusal::Run)? {
         None => Ok(()),
-        Some(stopped) => Err(ScriptRefusal::from(stopped)),
+        Some(halted) => Err(ScriptRefusal::from(halted)),
     }
 }

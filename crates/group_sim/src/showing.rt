@@ -2,10 +2,10 @@
 ghost use Rattle.std.specs.Prelude.{◌≡◌, ◌≤◌, ℕ, None, Some};
 ghost use Rattle.std.specs.FinMap.{get};
 ghost use Rattle.group_sim.specs.Groups.{ballot_text, console_at, console_text, group_text};
-ghost use Rattle.group_sim.specs.Groups.{keys_text, known_text, learned_at, learned_by, node_line};
-ghost use Rattle.group_sim.specs.Groups.{node_lines, place_line, place_lines, known_promise};
-ghost use Rattle.group_sim.specs.Groups.{promised_text, value_text};
-ghost use Rattle.group_sim.specs.Texts.{node_at, PutsText};
+ghost use Rattle.group_sim.specs.Groups.{keys_text, known_text, learned_at, learned_by, node_at};
+ghost use Rattle.group_sim.specs.Groups.{node_line, node_lines, place_line, place_lines};
+ghost use Rattle.group_sim.specs.Groups.{promised_by, promised_text, value_text};
+ghost use Rattle.group_sim.specs.Texts.{PutsText};
 
 use crate::text::{put, put_decimal, put_hex, put_number};
 use group_node::Node;
@@ -68,7 +68,7 @@ fn write_known<W: ByteWriter>(writer: &mut W, world: &World<'_>, node: u8) -> Re
 
 /// Returns the ballot that a node's stored record has promised.
 fn promised(world: &World<'_>, node: u8) -> Option<Ballot>
-    ensures { result ≡ known_promise world.now node }
+    ensures { result ≡ promised_by world.now node }
 {
     match world.record(node) {
         None => None,

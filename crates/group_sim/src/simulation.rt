@@ -3,14 +3,15 @@ ghost use Rattle.std.specs.Prelude.{◌≡◌, ◌↔◌, ◌+◌, ◌≤◌, is
 ghost use Rattle.group_protocol.specs.Fault.{code_of};
 ghost use Rattle.group_protocol.specs.States.{IsSize};
 ghost use Rattle.group_world.specs.Event.{kept_event};
-ghost use Rattle.group_sim.specs.Moments.{DeliversOne, DeliversAll, HappensAt, InTurn, PerformsLines, PerformsTask, Plays, ReleasesAll, Says, Settles, Shows, group_of, halt_answer, is_meant, moment, waiting};
-ghost use Rattle.group_sim.specs.Texts.{node_at, refusal_text, event_text, held, PutsText};
+ghost use Rattle.group_sim.specs.Groups.{node_at};
+ghost use Rattle.group_sim.specs.Moments.{DeliversOne, DeliversAll, HappensAt, InTurn, PerformsLines, PerformsTask, Plays, ReleasesAll, Says, Settles, Shows, event_text, group_of, halt_answer, is_meant, moment, refusal_text, unreleased_count};
+ghost use Rattle.group_sim.specs.Texts.{held, PutsText};
 
 use crate::showing::write_group;
 use crate::text::{put, put_number};
 use group_node::{NodeFault, To};
 use group_world::{Act, Done, Event, Line, Outcome, Script, World, WorldFault};
-use machine_run::{ByteWriter, RunIo, WriteFault};
+use machine_run::{ByteWriter, IoFault, WriteFault};
 use pcode_ops::Program;
 use std::alloc::Global;
 
@@ -20,9 +21,9 @@ pub const DELIVERIES: u32 = 10_000;
 /// The most steps that each machine makes at the end of a settle.
 pub const SETTLE_STEPS: u32 = 1_000;
 
-/// The line at which a script stopped, and why.
+/// The line at which a script halted, and why.
 #[derive(Clone, Copy, Debug, PartialEq, Eq)]
-pub struct Stopped {
+pub struct Halted {
     /// The number of the line, from 1.
     pub line: usize,
     /// The world's refusal, or `None` if a settle was too long.
@@ -194,9 +195,9 @@ impl Simulation<'_> {
         Ok(())
     }
 
-    /// Returns the number of bytes that wait at a node.
-    fn waiting(&self, node: u8) -> usize
-        ensures { result ≡ waiting (node_at self.now.world node) }
+    /// Returns the number of output bytes that a node has not released, 0 if it is not up.
+    fn unreleased(&self, node: u8) -> usize
+        ensures { result ≡ unreleased_count self.now.world node }
     {
         match self.world.node(node) {
             None => 0,
@@ -204,7 +205,7 @@ impl Simulation<'_> {
         }
     }
 
-    /// Releases all output that waits at a node.
+    /// Releases all output that a node has not released.
     fn release_all<W: ByteWriter>(
         &mut self,
         writer: &mut W,
@@ -215,14 +216,14 @@ impl Simulation<'_> {
         ensures releases { PerformsTask W.contents W.write_faults
             (ReleasesAll line node) self writer result }
     {
-        let waiting = self.waiting(node);
-        for _ in 0..waiting {
+        let unreleased = self.unreleased(node);
+        for _ in 0..unreleased {
             self.go_on(writer, line, Act::Release(node))?;
         }
         Ok(())
     }
 
-    /// Runs a node, if it is up, and releases all its output that waits.
+    /// Runs a node, if it is up, and releases all output that it has not released.
     fn play<W: ByteWriter>(
         &mut self,
         writer: &mut W,
@@ -288,7 +289,7 @@ impl Simulation<'_> {
             (Says self.old.size number line.now) self writer result }
     {
         match line {
-            Line::Act(event) => self.happen(writer, number, event),
+            Line::Event(event) => self.happen(writer, number, event),
             Line::Settle => self.settle(writer, number),
             Line::Show => self.show(writer),
         }
@@ -296,15 +297,15 @@ impl Simulation<'_> {
 }
 
 /// Returns the answer of a script that halts at a line.
-fn stopped_at(line: usize, halt: ScriptHalt) -> Result<Option<Stopped>, RunIo>
+fn halted_at(line: usize, halt: ScriptHalt) -> Result<Option<Halted>, IoFault>
     ensures { result ≡ halt_answer line halt }
 {
     let fault = match halt {
         ScriptHalt::Refused(fault) => Some(fault),
         ScriptHalt::TooLong => None,
-        ScriptHalt::Unwritten => return Err(RunIo::Write),
+        ScriptHalt::Unwritten => return Err(IoFault::Write),
     };
-    Ok(Some(Stopped { line, fault }))
+    Ok(Some(Halted { line, fault }))
 }
 
 /// Performs `script` on a new group that runs `program`. At `Ok(None)` each line was done, in
@@ -314,26 +315,23 @@ fn stopped_at(line: usize, halt: ScriptHalt) -> Result<Option<Stopped>, RunIo>
 ///
 /// It writes `line N node Dk` for an event that its node refuses, nothing for another event, and
 /// the text of the group for a `show`. It fails exactly if a write fails, or takes nothing: then a
-/// prefix of that text was written. What the line that halts did before has happened.
+/// prefix of that text was written. A want of memory is a refusal of the world, so it never fails
+/// with `Memory`. What the line that halts did before has happened.
 ///
 /// A `settle` passes the messages that no earlier settle has passed, with those that it causes, in
 /// the order in which they were sent. It delivers each to those whom it is for and who are up, in
-/// ascending order. Then each node that is up, in ascending order, runs at most 1,000 steps and
-/// releases all its output that waits.
-///
-/// Returns where it stopped, if it did: at line 1 if there is no group of the size or no memory for
-/// it, at a line that the world refused, or at a settle with one delivery to make after its
-/// 10,000th. Running out of memory is a refusal of the world, so it never fails with `Memory`.
+/// ascending order, and halts if it has a 10,001st delivery to make. Then each node that is up, in
+/// ascending order, runs at most 1,000 steps and releases all output that it has not released.
 pub fn sim<W: ByteWriter>(
     alloc: Global,
     program: &Program,
     script: &Script,
     writer: &mut W,
-) -> Result<Option<Stopped>, RunIo>
+) -> Result<Option<Halted>, IoFault>
     ensures line { IfOk result
         (λ answer. IfSome answer
-        (λ stopped. (1 ≤ stopped.line) × (stopped.line ≤ length script.now.lines.items + 1))) }
-    ensures write { IfErr result (λ fault. fault ≡ RunIo.Write) }
+        (λ halted. (1 ≤ halted.line) × (halted.line ≤ length script.now.lines.items + 1))) }
+    ensures write { IfErr result (λ fault. fault ≡ IoFault.Write) }
     ensures performs { PerformsLines (group_of program.now script.now) script.now.lines.items
         (held W.contents W.write_faults writer.old) (held W.contents W.write_faults writer.new)
         result }
@@ -348,13 +346,13 @@ pub fn sim<W: ByteWriter>(
             passed: 0,
             left: 0,
         },
-        Err(fault) => return stopped_at(1, ScriptHalt::Refused(fault)),
+        Err(fault) => return halted_at(1, ScriptHalt::Refused(fault)),
     };
     let mut number = 1;
     for line in script.lines.iter() {
         number += 1;
         if let Err(halt) = simulation.perform(writer, number, line) {
-            return stopped_at(number, halt);
+            return halted_at(number, halt);
         }
     }
     Ok(None)

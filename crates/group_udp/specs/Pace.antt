@@ -12,7 +12,8 @@ first_after first (Some took) =
 
 -- The time of the next rest, by whether the node sent anything but Asks before the last one, by
 -- the first pause, by what it has learned since then, and by whether it has sent any since then.
--- Forbids: a pause that is doubled though a place was learned, or before the first repeat.
+-- Forbids: a rest that depends on the one before it, though a place was learned or nothing was
+-- repeated.
 abbrev pub rest_after : Pace → Option ℕ → Bool → ℕ
 rest_after p (Some took) true = first_after p.first (Some took)
 rest_after p (Some took) false = LONG_REST

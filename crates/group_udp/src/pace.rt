@@ -1,5 +1,5 @@
 //! How long a node rests between two turns.
-ghost use Rattle.std.specs.Prelude.{◌≡◌};
+ghost use Rattle.std.specs.Prelude.{◌≡◌, false};
 ghost use Rattle.group_udp.specs.Pace.{first_after, least_of, pace_after, rest_after};
 
 use crate::limits::{LONG_PAUSE, LONG_REST, SHORT_REST};
@@ -18,7 +18,9 @@ pub struct Pace {
 
 impl Pace {
     /// Returns the pace of a node that starts.
-    pub fn new() -> Pace {
+    pub fn new() -> Pace
+        ensures { result ≡ record { rest = SHORT_REST; first = SHORT_REST; is_sending = false } }
+    {
         Pace {
             rest: SHORT_REST,
             first: SHORT_REST,
@@ -27,8 +29,8 @@ impl Pace {
     }
 
     /// Returns the first pause between repeats, once a place was learned so many milliseconds after
-    /// something was last sent for it. It is twice this time, but at least half of what it was, and
-    /// at most four times that.
+    /// something was last sent for it. It is twice this time, but at least half of what it was and
+    /// at most four times what it was, and in any case from 10 to 200 milliseconds.
     fn first_after(self, learned: Option<u64>) -> u64
         ensures { result ≡ first_after self.first learned }
     {
@@ -59,9 +61,10 @@ impl Pace {
     /// until a place was learned, if one was since the last rest began, and `has_sent` is true if
     /// anything but Asks was sent since then.
     ///
-    /// If nothing was learned, what was sent repeats what was sent before, and the pause before the
-    /// next repeats is twice as long, up to 200 milliseconds. A node that sends nothing but Asks
-    /// rests for 100.
+    /// A node that has sent nothing but Asks rests for 100 milliseconds. If it has sent more, had
+    /// also done so before the last rest, and nothing was learned, then what it sent counts as
+    /// repeats, and the pause before the next ones is twice as long as the last, up to 200. Else it
+    /// rests for the `first` that is returned.
     pub fn next(self, learned: Option<u64>, has_sent: bool) -> Pace
         ensures { result ≡ pace_after self learned has_sent }
     {

@@ -25,7 +25,7 @@ use Rattle.group_node.specs.NodeCalls.{Running, call_of_campaign, running}
 use Rattle.group_wire.specs.Doings.{ActsBy, DoesAll, DoesOnWire, Doing, Fails, HasActed, after_fate, after_heard, deed_of, hearing, last_receiving, prompt_in, prompts_of, receives, sent_of, ticked_if, ticking, transfers_of}
 use Rattle.group_wire.specs.Traffic.{Traffic, grown}
 use Rattle.group_wire.specs.Campaigns.{HasCampaigned}
-use Rattle.group_wire.specs.Turns.{HasHeard, HasTurned, HearsSome, TellsOfOne}
+use Rattle.group_wire.specs.Turns.{HasFailedAt, HasHeard, HasTurned, HearsSome, TellsOfOne}
 use Rattle.group_wire.proofs.Carrying.{grown_twice, passed_then}
 use Rattle.group_wire.proofs.Hearing.{after_came}
 
@@ -148,11 +148,11 @@ turn_acts {S} {kind} {old} {new} {from} {to} done h replay =
     )
 
 -- receives the last of which was refused
-hears_fails : {S : Type 0} (P : Msg → Type 0) (came : List Arrival) (ending : Ending) {old new : NodeState S} {from to : Option Traffic}
-    → EndsAt ending P → HearsSome came ending old new from to → Fails old new from to []
-hears_fails P came GoesOn ends h = absurd ends
-hears_fails P came NoneCame ends h = absurd ends
-hears_fails P came (Refuses bytes m) {old} {new} ends h =
+hears_fails : {S : Type 0} (kind : StoreKind S) (came : List Arrival) (ending : Ending) {old new : NodeState S} {from to : Option Traffic}
+    → EndsAt ending (HasFailedAt kind new) → HearsSome came ending old new from to → Fails old new from to []
+hears_fails kind came GoesOn ends h = absurd ends
+hears_fails kind came NoneCame ends h = absurd ends
+hears_fails kind came (Refuses bytes m) {old} {new} ends h =
     let me : Me = old.protocol.known.me in
     let w : Running = running old in (
       receives me w.known came,
@@ -160,7 +160,7 @@ hears_fails P came (Refuses bytes m) {old} {new} ends h =
       record {
         me = h.me;
         does = rw (h.known, h.progress) (receives_does me w came h.arrivals.fates);
-        fails = (bytes, h.arrivals.last, refl, (refl, refl));
+        fails = (bytes, h.arrivals.last, refl, (refl, refl), ends.0);
         traffic = h.traffic;
       },
       hearing_unprompted me w.known came (Refuses bytes m),
@@ -171,7 +171,7 @@ pub turn_acts_by : {S : Type 0} {kind : StoreKind S} {old new : NodeState S} {fr
     (result : Result Turned NodeFault) → HasTurned kind old new from to result
     → IsReplay (input new.protocol.known) new.progress → ActsBy old new from to (Run TURN_STEPS ∷ []) [] result
 turn_acts_by (Ok done) h replay = turn_acts done h replay
-turn_acts_by (Err Store) h replay = hears_fails _ h.came h.ending (h.hears.fault refl) (record {
+turn_acts_by {kind = kind} (Err Store) h replay = hears_fails kind h.came h.ending (h.hears.fault refl) (record {
   arrivals = h.plays.arrivals;
   known = h.plays.known;
   me = h.me;
@@ -207,7 +207,7 @@ receive_ends heard came ending told = grind arith
 pub hear_acts_by : {S : Type 0} {kind : StoreKind S} {old new : NodeState S} {from to : Option Traffic}
     (result : Result Received NodeFault) → HasHeard kind old new from to result → ActsBy old new from to [] [] result
 hear_acts_by (Ok heard) h = hears_acts h.hears (receive_ends heard h.came h.ending h.tells)
-hear_acts_by (Err Store) h = hears_fails _ h.came h.ending h.tells.1 h.hears
+hear_acts_by {kind = kind} (Err Store) h = hears_fails kind h.came h.ending (h.fault refl) h.hears
 hear_acts_by (Err Stopped) h = tt
 hear_acts_by (Err e) h = elim h.refused.others [ inl stopped ↦ absurd cc | inr store ↦ absurd cc ]
 

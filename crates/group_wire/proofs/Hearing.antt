@@ -112,11 +112,17 @@ pub refuses_one : {S : Type 0} (kind : StoreKind S) {g : Group} {old new : NodeS
     (bytes : List ℕ) (m : Msg) (fault : NodeFault) (result : Result Received NodeFault)
     → old.protocol.known.me.group ≡ g → Spells g bytes m → new.protocol.known ≡ old.protocol.known → new.progress ≡ old.progress
     → to ≡ grown from (Receives (Some bytes) ∷ []) → result ≡ Err fault
+    → (fault ≡ Store → (on_message old.protocol.known m.sender m.body).saves ≢ None)
     → (kind.honest → fault ≡ Store → IsOneOf (kind.state new.protocol.store).stored old.protocol.known.kept
     (on_message old.protocol.known m.sender m.body).node.kept)
     → HearsThere kind old new from to result
-refuses_one kind from to bytes m fault result group spelled known progress traffic told device =
-    ([], Refuses bytes m, grind (arith, common_steps, All-nil), rw told (refl, tt), λ failed is_honest. rw known (device is_honest (cc)))
+refuses_one kind from to bytes m fault result group spelled known progress traffic told saves device = (
+  [],
+  Refuses bytes m,
+  grind (arith, common_steps, All-nil),
+  rw told (refl, tt),
+  λ failed. rw known (saves (cc), λ is_honest. device is_honest (cc)),
+)
 
 -- ---- several receives
 

@@ -13,7 +13,6 @@ pub record Spells (g : Group) (bytes : List ℕ) (m : Msg) : Type 0 where
 
 -- The fate of a datagram: heard, lost since memory ran out, or dropped.
 -- It is dropped as too long, or as no message of the group.
--- Forbids: a message that is dropped without being counted.
 pub data Fate : Type 0 where
   Hears : Msg → Fate
   Loses : Msg → Fate
@@ -26,6 +25,7 @@ pub record Arrival : Type 0 where
   pub fate : Fate
 
 -- A fate that these bytes may have in the group.
+-- Forbids: a message of at most 1,400 bytes that is dropped: it is heard or lost.
 abbrev pub IsFateOf : Group → List ℕ → Fate → Type 0
 IsFateOf g bytes (Hears m) = Spells g bytes m
 IsFateOf g bytes (Loses m) = Spells g bytes m

@@ -1,5 +1,5 @@
 -- The deeds of a node on its wire, each with what passed over the wire in it, and in which order.
-use Rattle.std.specs.Prelude.{◌≡◌, ℕ, ◌+◌, ◌<◌, Bool, if◌then◌else◌, List, [], ◌∷◌, ◌++◌, flat_map, map, Option, Some, None, Result, Ok, Err, slice_get}
+use Rattle.std.specs.Prelude.{◌≡◌, ◌≢◌, ℕ, ◌+◌, ◌<◌, Bool, if◌then◌else◌, List, [], ◌∷◌, ◌++◌, flat_map, map, Option, Some, None, Result, Ok, Err, slice_get}
 use Rattle.paxos_msg.specs.declared.value.Value.{Value}
 use Rattle.paxos_msg.specs.Batches.{Msg}
 use Rattle.paxos_acceptor.specs.declared.me.Me.{Me}
@@ -9,8 +9,8 @@ use Rattle.group_node.specs.declared.player.Ran.{Ran}
 use Rattle.group_protocol.specs.Known.{Known, Response, new_key, on_typed, quiet}
 use Rattle.group_node.specs.Deeds.{Deed, Idle, Start, Hear, Press, Campaign, Tick, Run, Release, Crash}
 use Rattle.group_node.specs.NodeCalls as call
-use Rattle.group_node.specs.NodeCalls.{Makes, NodeCall, Running, call_of_campaign, call_of_press, running}
-use Rattle.group_node.specs.Output.{IsReplay, RunsOn, unreleased_of}
+use Rattle.group_node.specs.NodeCalls.{Makes, NodeCall, Running, call_of_campaign, call_of_press, running, unreleased_by}
+use Rattle.group_node.specs.Output.{IsReplay, RunsOn}
 use Rattle.group_protocol.specs.Packets.{Datagram, datagrams_of}
 use Rattle.group_protocol.specs.Protocol.{on_message}
 use Rattle.group_node.specs.States.{NodeState, input}
@@ -144,13 +144,13 @@ DoesOnWire me w (Run steps) d v =
     (ran : Ran) × (v.known ≡ w.known) × RunsOn (input w.known) steps w.progress v.progress ran
     × IsReplay (input w.known) v.progress × (d.given ≡ []) × SendsNothing d
 DoesOnWire me w Release d v =
-    (byte : ℕ) × (slice_get (unreleased_of (input w.known) w.progress) 0 ≡ Some byte)
+    (byte : ℕ) × (slice_get (unreleased_by w) 0 ≡ Some byte)
     × (v ≡ record w { progress = record w.progress { released = w.progress.released + 1 } })
     × (d.given ≡ []) × SendsNothing d
 DoesOnWire me w Crash d v = ⊥
 
--- What a node is prompted to do by a deed: to take a typed byte, to campaign, or to run its
--- machine. At a message, a tick or a release it is not prompted.
+-- The prompt that a deed follows: to take a typed byte, to campaign, or to run the machine. Every
+-- other deed has none.
 abbrev pub prompt_in : Deed → List Deed
 prompt_in (Press byte) = Press byte ∷ []
 prompt_in Campaign = Campaign ∷ []
@@ -172,10 +172,12 @@ abbrev pub IsMade : NodeCall → Type 0
 IsMade (call.Refuses f) = ⊥
 IsMade (Makes done keys) = Unit {0}
 
--- A deed of the node `w` at which its save fails: nothing is sent. The node ends with it.
+-- A deed of the node `w` at which its save fails: a campaign, or a message at which it saves. Then
+-- nothing is sent, and the node ends.
 abbrev pub FailsDeed : Me → Running → Deed → Doing → Type 0
 FailsDeed me w (Hear m) d =
     (bytes : List ℕ) × Spells me.group bytes m × (d.given ≡ Some bytes ∷ []) × SendsNothing d
+    × ((on_message w.known m.sender m.body).saves ≢ None)
 FailsDeed me w Campaign d = IsMade (call_of_campaign w.known) × (d.given ≡ []) × SendsNothing d
 FailsDeed me w _ d = ⊥
 

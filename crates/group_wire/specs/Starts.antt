@@ -18,7 +18,7 @@ LacksOutbox store result = result ≡ Err (record { fault = fault.Memory; store 
 pub record HasStarted {S : Type 0} (kind : StoreKind S) (me : Me) (program : Parts) (store : S)
     (result : Result (NodeState S) (StartRefused S)) : Type 0 where
   pub loaded : LacksOutbox store result ⊎ StartsByLoad kind me store result
-  pub fresh : IfOk result (IsFresh me program)
+  pub fresh : IfOk result (IsFresh program)
   pub from : kind.honest → StartsHonestly kind me store result
   pub plan : StartsByPlan kind store result
   pub others : IfErr result (λ e. IsAmong (fault.Memory ∷ fault.Store ∷ fault.BadRecord

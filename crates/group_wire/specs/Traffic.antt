@@ -18,7 +18,6 @@ pub data Transfer : Type 0 where
   Receives : Option (List ℕ) → Transfer
 
 -- What has passed over a wire, in one order.
--- Forbids: an answer that went out before the message that it answers had come.
 abbrev pub Traffic : Type 0
 Traffic = List Transfer
 

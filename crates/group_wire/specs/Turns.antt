@@ -1,5 +1,5 @@
 -- A turn of a node on its wire: the messages that it hears, a tick, and a run of its machine.
-use Rattle.std.specs.Prelude.{◌≡◌, ◌⊎◌, ◌↔◌, ◌≤◌, Bool, true, false, List, [], ◌∷◌, ◌++◌, All, length, Option, Result, Ok, Err, IfErr, IfOk, IsErr, IsErrOf, OnErr, OnOk, ℕ, take}
+use Rattle.std.specs.Prelude.{◌≡◌, ◌≢◌, ◌⊎◌, ◌↔◌, ◌≤◌, Bool, true, false, List, [], ◌∷◌, ◌++◌, All, length, Option, None, Result, Ok, Err, IfErr, IfOk, IsErr, IsErrOf, OnErr, OnOk, ℕ, take}
 use Rattle.paxos_msg.specs.Batches.{Msg}
 use Rattle.paxos_acceptor.specs.Stores.{CountsIf, IsOneOf, StoreKind}
 use Rattle.group_protocol.specs.declared.fault.NodeFault.{NodeFault}
@@ -95,18 +95,20 @@ TellsOfOne (Ok answer.Lost) came ending = IsOne came ending answer.Lost
 TellsOfOne (Ok answer.Message) came ending = IsOne came ending answer.Message
 TellsOfOne (Err e) came ending = (came ≡ []) × EndsAt ending (λ _. Unit {0})
 
--- A store after a save failed at this message: it has the node's record, or that of the response.
+-- A node whose save has failed at this message, the response to which saves. An honest store has
+-- the node's record, or that of the response.
 -- Forbids: a mixture of both.
-abbrev pub IsAfterFault : {S : Type 0} → StoreKind S → NodeState S → Msg → Type 0
-IsAfterFault kind n m =
-    IsOneOf (kind.state n.protocol.store).stored n.protocol.known.kept
-    (on_message n.protocol.known m.sender m.body).node.kept
+abbrev pub HasFailedAt : {S : Type 0} → StoreKind S → NodeState S → Msg → Type 0
+HasFailedAt kind n m =
+    ((on_message n.protocol.known m.sender m.body).saves ≢ None)
+    × (kind.honest → IsOneOf (kind.state n.protocol.store).stored n.protocol.known.kept
+    (on_message n.protocol.known m.sender m.body).node.kept)
 
 -- A failed save comes only at the message at which hearing ended.
 abbrev pub FailsAtEnd : {S T : Type 0} → StoreKind S → Ending → NodeState S
     → Result T NodeFault → Type 0
 FailsAtEnd kind ending new result =
-    IsErrOf result Store → EndsAt ending (λ m. kind.honest → IsAfterFault kind new m)
+    IsErrOf result Store → EndsAt ending (HasFailedAt kind new)
 
 -- The refusals of a tick or a run: as stopped alone, and exactly if a save has failed before.
 pub record IsRefusedIfStopped {S T : Type 0} (old : NodeState S)

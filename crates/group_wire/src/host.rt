@@ -1,7 +1,8 @@
 //! A node with its outbox.
 ghost use Rattle.std.specs.Prelude.{◌≡◌, ◌+◌, [], ◌∷◌, length, Option, option_map, slice_get, IfNone, OnSome};
 ghost use Rattle.group_node.specs.Deeds.{Campaign};
-ghost use Rattle.group_node.specs.Output.{IsReplay, unreleased_of};
+ghost use Rattle.group_node.specs.NodeCalls.{running, unreleased_by};
+ghost use Rattle.group_node.specs.Output.{IsReplay};
 ghost use Rattle.group_node.specs.States.{input};
 ghost use Rattle.group_wire.specs.Campaigns.{HasCampaigned};
 ghost use Rattle.group_wire.specs.Doings.{ActsBy, HasActed};
@@ -120,7 +121,7 @@ impl<'a, S: Store> Host<'a, S> {
     pub fn release(&mut self) -> Option<(u64, u8)>
         ensures value { result
             ≡ option_map (λ b. (self.old.progress.released, b))
-            (slice_get (unreleased_of (input self.old.protocol.known) self.old.progress) 0) }
+            (slice_get (unreleased_by (running self.old)) 0) }
         ensures some { OnSome result
             (self.new.progress
             ≡ record self.old.progress { released = self.old.progress.released + 1 }) }
@@ -133,8 +134,7 @@ impl<'a, S: Store> Host<'a, S> {
 
     /// Returns the number of bytes of output that wait, at most 256, as `Node::unreleased` says.
     pub fn unreleased(&self) -> usize
-        ensures count { result
-            ≡ length (unreleased_of (input self.now.protocol.known) self.now.progress) }
+        ensures count { result ≡ length (unreleased_by (running self.now)) }
         ensures replay { IsReplay (input self.now.protocol.known) self.now.progress }
     {
         self.node.unreleased()

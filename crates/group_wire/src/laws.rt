@@ -1,15 +1,15 @@
 //! Laws of the deeds of a node on its wire, as facts about the definitions alone.
 ghost use Rattle.std.specs.Prelude.{◌≡◌, ◌≢◌, ◌++◌, [], ◌∷◌, ℕ, length, List, Option, Some};
 ghost use Rattle.pcode_file.specs.Parts.{Parts};
+ghost use Rattle.paxos_msg.specs.declared.message.Body.TheVariants.{Ask};
 ghost use Rattle.paxos_msg.specs.Batches.{Msg, Record};
 ghost use Rattle.paxos_acceptor.specs.declared.me.Me.{Me};
 ghost use Rattle.group_node.specs.Deeds.{Campaign, Crash, Deed, Hear, Idle, Press, Release, Run, Start, Tick};
 ghost use Rattle.group_protocol.specs.Known.{next_serial};
-ghost use Rattle.group_node.specs.Output.{unreleased_of};
 ghost use Rattle.group_protocol.specs.ProposerRows.{last_round};
-ghost use Rattle.group_node.specs.States.{input, NodeState};
+ghost use Rattle.group_node.specs.States.{NodeState};
 ghost use Rattle.group_wire.specs.Arrivals.{Spells};
-ghost use Rattle.group_node.specs.NodeCalls.{Running};
+ghost use Rattle.group_node.specs.NodeCalls.{Running, unreleased_by};
 ghost use Rattle.group_wire.specs.Doings.{DoesAll, DoesOnWire, Doing, Fails, FailsDeed, HasActed};
 ghost use Rattle.group_wire.specs.Process.{IsProcess, Process};
 ghost use Rattle.group_wire.specs.Traffic.{Traffic};
@@ -29,7 +29,7 @@ pub fn deeds_go_on<S: Store>()
 
 /// Deeds that no node does on its wire. It hears no message that the receive did not give, or that
 /// its bytes do not spell. Nothing is typed at a tick, and nothing received; an idle node sends
-/// nothing and stays as it was. A run or a release sends nothing.
+/// nothing and stays as it was. A run or a release sends nothing, and a run learns nothing.
 pub fn wrong_deeds()
     ensures hears_what_none_gave { (me : Me) (w v : Running) (m : Msg) (d : Doing) → d.given ≡ []
         → ¬ DoesOnWire me w (Hear m) d v }
@@ -63,19 +63,24 @@ pub fn wrong_times()
     ensures campaign_after_the_last { (me : Me) (w v : Running) (d : Doing)
         → last_round w.known ≡ 4294967295 → ¬ DoesOnWire me w Campaign d v }
     ensures release_of_nothing { (me : Me) (w v : Running) (d : Doing)
-        → unreleased_of (input w.known) w.progress ≡ [] → ¬ DoesOnWire me w Release d v }
+        → unreleased_by w ≡ [] → ¬ DoesOnWire me w Release d v }
     ensures starts { (me : Me) (w v : Running) (r : Record) (d : Doing)
         → ¬ DoesOnWire me w (Start r) d v }
     ensures crashes { (me : Me) (w v : Running) (d : Doing) → ¬ DoesOnWire me w Crash d v }
 {}
 
-/// Ends that no process has. A save fails only at a message or a campaign, at which nothing is
-/// sent then; so a process does not end by a failed save at a tick. It does not start over a record
-/// whose starts are spent, and without a deed its node is the one that started.
+/// Ends that no process has. No save fails at an Ask, a tick, a typed byte, a run or a release, so
+/// no process ends there by one; and where one fails, nothing is sent. A process does not start
+/// over a record whose starts are spent, and without a deed its node is the one that started.
 pub fn wrong_ends()
+    ensures fails_at_an_ask { (me : Me) (w : Running) (sender from : ℕ) (d : Doing)
+        → ¬ FailsDeed me w (Hear (record { sender = sender; body = Ask from })) d }
     ensures fails_at_a_tick { (me : Me) (w : Running) (d : Doing) → ¬ FailsDeed me w Tick d }
     ensures fails_at_a_press { (me : Me) (w : Running) (byte : ℕ) (d : Doing)
         → ¬ FailsDeed me w (Press byte) d }
+    ensures fails_at_a_run { (me : Me) (w : Running) (steps : ℕ) (d : Doing)
+        → ¬ FailsDeed me w (Run steps) d }
+    ensures fails_at_a_release { (me : Me) (w : Running) (d : Doing) → ¬ FailsDeed me w Release d }
     ensures sends_at_a_failed_message { (me : Me) (w : Running) (m : Msg) (d : Doing)
         → d.sent ≢ [] → ¬ FailsDeed me w (Hear m) d }
     ensures sends_at_a_failed_campaign { (me : Me) (w : Running) (d : Doing)

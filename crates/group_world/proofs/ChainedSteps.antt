@@ -2,7 +2,7 @@
 use Rattle.std.proofs.lemmas.Bool.Decides.{nat_tests}
 use Rattle.std.proofs.lemmas.Bool.{and_parts, eq-eqb, ne_eqb}
 use Rattle.std.proofs.lemmas.List.Folds.{list_any_at}
-use Rattle.std.proofs.Common.{Contains, ◌==◌, ◌&&◌, false, true, ◌≡◌, ◌≤◌, ◌<◌, ◌∙◌, ◌↔◌, ℕ, zero, suc, Bool, List, [], ◌∷◌, ◌++◌, slice_get, Some, None, Option, IfSome, inl, inr, ◌⊎◌, refl, sym, ap, arith, take, drop, length, append-nil, ◌+◌}
+use Rattle.std.proofs.Common.{Contains, ◌==◌, ◌&&◌, false, true, ◌≡◌, ◌≤◌, ◌<◌, ◌∙◌, ◌↔◌, ℕ, zero, suc, Bool, List, [], ◌∷◌, ◌++◌, slice_get, Some, None, Option, IfSome, inl, inr, refl, sym, ap, arith, take, drop, length, append-nil, ◌+◌, ◌⊎◌}
 use Rattle.std.specs.List.{AllByRecursion as EachOf, list_any}
 use Rattle.std.specs.FinMap.{insert, get}
 use Rattle.pcode_file.specs.Parts.{Parts}
@@ -275,22 +275,16 @@ makes_steps law p x (suc n) h =
     let parts = and_parts (all_go p x n) (is_step (transition p x (after_steps p x n))) h in
     (after_steps p x n, makes_steps law p x n parts.0, (law.step p x _ _).1 (goes_by p x _ _ parts.1 refl))
 
--- a machine that has come to a configuration
-abbrev pub at_configuration : WorldState → ℕ → Up → Configuration → WorldState
-at_configuration w i was c = with_seat w i (record (w.seats i) { up = Some (record was { configuration = c }) })
-
-abbrev crashed : WorldState → ℕ → WorldState
-crashed w i = with_seat w i (record (w.seats i) { up = None })
-
 module _ {w : WorldState} (i : ℕ) where
-  pub crashes : Steps w (act.Crash i) (crashed w i)
+  pub crashes : Steps w (act.Crash i) (with_seat w i (record (w.seats i) { up = None }))
   crashes = record { by = (deed.Crash, refl, record { left = seat_by w i _; rest = rest_seat w i _ }) }
 
   module _ (was : Up) (up : (w.seats i).up ≡ Some was) where
     -- a node that runs from its start
     pub runs : StepLaw → (p : Parts) (n : ℕ) → w.program ≡ p → was.configuration ≡ begin p
         → all_go p (learned_input was.learned) n ≡ true
-        → Steps w (act.Run i n) (at_configuration w i was (after_steps p (learned_input was.learned) n))
+        → Steps w (act.Run i n)
+        (with_seat w i (record (w.seats i) { up = Some (record was { configuration = after_steps p (learned_input was.learned) n }) }))
     runs law p n is begins go = record {
       by = (
         deed.Run n,

@@ -1,9 +1,8 @@
 -- A group after each event, by its node after it.
 use Rattle.std.proofs.lemmas.Option.{get_or_from_slice_get}
-use Rattle.std.proofs.lemmas.List.{append-nil}
-use Rattle.std.proofs.Common.{◌≡◌, ◌∙◌, ℕ, zero, suc, ◌-◌, ◌<◌, All, Bool, List, [], ◌∷◌, ◌++◌, get_or, length, slice_get, slice_set, Option, None, Some, Result, Ok, Err, IfOk, OnErr, OnOk, refl, sym, ap, subst, arith}
+use Rattle.std.proofs.Common.{◌≡◌, ◌∙◌, ℕ, zero, suc, ◌-◌, ◌<◌, All, Bool, List, [], ◌∷◌, ◌++◌, get_or, length, slice_get, slice_set, Option, None, Some, Result, Ok, Err, IfOk, OnErr, OnOk, refl, sym, ap, subst, arith, append-nil}
 use Rattle.std.proofs.lemmas.Bool.Decides.{nat_tests}
-use Rattle.std.proofs.lemmas.Result.{IfOk-weaker, on_err_weaker}
+use Rattle.std.proofs.lemmas.Result.{IfOk-weaker}
 use Rattle.std.proofs.lemmas.List.Elements.{All-head, All-tail}
 use Rattle.paxos_msg.specs.declared.value.Value.{Value}
 use Rattle.paxos_msg.specs.declared.message.Group.{Group}
@@ -83,8 +82,7 @@ module _ {w was : World} (is : w ≡ was) (i : ℕ) {place : ℕ} {lent : Member
         → OnErr r (parts w place new sent typed ≡ was)
     unchanged_on_err new packets r sends types same =
         let put = set_same was.members (i - 1) has.0 (is_at was.members i has.0 has.2.there).1 in
-        on_err_weaker r
-        (λ h. rw (sends, types, at, is, h.0, lent_is has.2.there, h.1, put, append-nil was.sent) refl) same
+        grind (arith, nat_tests, lent_is has.2.there, append-nil was.sent)
 
     -- a press
     pub presses_so : {new : Member} {byte : ℕ} {d : Done} {keys typed : List Value} → IsSound was → (plan : Option Bool) → byte < 256
@@ -94,12 +92,8 @@ module _ {w was : World} (is : w ≡ was) (i : ℕ) {place : ℕ} {lent : Member
         → DoesAt was i plan (deed.Press byte) d (parts w place new w.sent typed)
     presses_so {new} {byte} {d} {keys} sound plan low types ends =
         let (m, q, up) = has in
-        does_so up.there plan (deed.Press byte) d new [] keys (none_more _) types (
-          q,
-          up.up,
-          low,
-          call_so up.there plan (λ _ _. call_of_press q.known byte) (running sound up).me_is (ends q lent_up),
-        )
+        let call = call_so up.there plan (λ _ _. call_of_press q.known byte) (running sound up).me_is (ends q lent_up) in
+        does_so up.there plan (deed.Press byte) d new [] keys (none_more _) types (q, up.up, low, call)
 
     -- a delivery, a campaign and a tick
     sending_does : {q : Running} (plan : Option Bool) (call : SendingCall) {left : Left} → has.0.node ≡ Some q
@@ -164,11 +158,9 @@ pub delivered : {w was : World} {k : ℕ} {x : Datagram} {bytes : List ℕ} {vie
     → Fits was.group view × (slice_get (messages_in was.group was.sent) k ≡ Some view)
 delivered {was = was} {k} {x} {view = view} is sound less number same only =
     let at = at_number was.group was.sent k x sound.spelled less (rw is at number) in
-    let read = the_message (only at.0.message (rw (is, same) at.0.spells)) in
+    let one = only at.0.message (rw (is, same) at.0.spells) in
+    let read : at.0.message ≡ view = cc one in
     (subst (Fits was.group) read at.0.spells.fits, at.1 ∙ ap Some read)
-  where
-    the_message : {a b : Msg} → ◌≡◌ {A = Result Msg WireFault} (Ok a) (Ok b) → a ≡ b
-    the_message e = cc
 
 -- ---- an event that is not refused
 

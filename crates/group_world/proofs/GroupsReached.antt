@@ -2,8 +2,7 @@
 -- second ballot takes over a vote of the first; keys of two starts of one node are chosen; a node
 -- that starts again releases a byte again.
 use Rattle.std.proofs.lemmas.Bool.Decides.{nat_tests}
-use Rattle.std.proofs.Common.{length, ◌==◌, ◌≡◌, ℕ, suc, if◌then◌else◌, [], ◌∷◌, drop, take, Option, IfSome, Some, None, inl, inr, refl, arith, lit<, ◌++◌, ◌∙◌}
-use Rattle.std.specs.Ordering.{nat_cmp}
+use Rattle.std.proofs.Common.{length, ◌==◌, ◌≡◌, ℕ, suc, if◌then◌else◌, [], ◌∷◌, drop, take, Option, IfSome, Some, None, inl, inr, refl, arith, lit<, ◌++◌, ◌∙◌, nat_cmp, eq-eqb}
 use Rattle.std.specs.FinMap.{empty, get-empty, insert}
 use Rattle.pcode_file.specs.Parts.{Parts}
 use Rattle.paxos_msg.specs.declared.ballot.Ballot.{Ballot}
@@ -20,7 +19,6 @@ use Rattle.group_node.specs.WrongSteps.{ballot_by}
 use Rattle.group_world.specs.RightGroups.{LeadsInSteps, first_batch, takeover_acts, three_new, two_learn_acts, two_show_acts, one_new, second_batch, two_starts_acts, restart_acts}
 use Rattle.group_world.proofs.ChainedSteps.{◌▸◌, Reaches, and_then, ballot_1, campaigns, hears, key_1, knowing, learns, presses, proposes, report, starts, stop, ticks, typed_by, typing, votes, StepLaw, releases, runs, crashes, released, promised, safe_at_first}
 use Rattle.group_world.proofs.WrittenVotes.{are_chosen, at_listed, chosen_by, has_learned}
-use Rattle.std.proofs.lemmas.Bool.{eq-eqb}
 use Rattle.pcode_machine.specs.Runs.{after_steps}
 use Rattle.paxos_learner.specs.Input.{learned_input, keys_in_order}
 use Rattle.group_world.specs.Witness.{echoes, letter_program}
@@ -83,19 +81,20 @@ two_learn p place = (_, (both_learn p place).leads, has_learned _ refl refl, has
 abbrev ballot_2 : Ballot
 ballot_2 = ballot_by 3 2
 
-abbrev vote_1 : Vote
-vote_1 = record { place = 700; ballot = ballot_1; value = first_batch }
+-- a vote for the first value
+abbrev vote_at : ℕ → Vote
+vote_at place = record { place = place; ballot = ballot_1; value = first_batch }
 
 -- what node 2 and node 3 report
 abbrev reports_2 : ℕ → Option Vote
-reports_2 i = if i == 2 then Some vote_1 else None
+reports_2 i = if i == 2 then Some (vote_at 700) else None
 
-safe_again : (sent : Sent) → IsPromised sent 2 ballot_2 700 (Some vote_1) → IsPromised sent 3 ballot_2 700 None
+safe_again : (sent : Sent) → IsPromised sent 2 ballot_2 700 (Some (vote_at 700)) → IsPromised sent 3 ballot_2 700 None
     → IsSafe 3 sent ballot_2 700 first_batch
 safe_again sent second third = record {
   members = is_listed (2 ∷ 3 ∷ []);
   reported = reports_2;
-  best = Some vote_1;
+  best = Some (vote_at 700);
   majority = lit< tt;
   promised = at_listed (λ i. IsPromised sent i ballot_2 700 (reports_2 i)) (2 ∷ 3 ∷ []) (second, (third, tt));
   is_best = record {
@@ -115,7 +114,7 @@ module _ (p : Parts) where
       ▸ starts 3 refl
       ▸ campaigns 3 (fresh p) refl 2 700 tt
       ▸ hears 3 (fresh p) refl 6 _ None (Promise ballot_2 700 701 [] ∷ []) refl (inl refl) tt ((refl, report _ _ _ tt), tt)
-      ▸ hears 2 (fresh p) refl 6 _ (Some (change.Promise ballot_2)) (Promise ballot_2 700 701 (vote_1 ∷ []) ∷ []) refl (inr refl)
+      ▸ hears 2 (fresh p) refl 6 _ (Some (change.Promise ballot_2)) (Promise ballot_2 700 701 (vote_at 700 ∷ []) ∷ []) refl (inr refl)
       (inl (omega arith)) ((refl, report _ _ _ ((omega arith, omega arith), tt)), tt)
       ▸ proposes 3 (fresh p) refl 8 _ ballot_2 700 first_batch refl refl refl refl (safe_again _
       (promised (8, lit< tt, refl) (omega arith) (omega arith)) (promised (7, lit< tt, refl) (omega arith) (omega arith)))
@@ -163,9 +162,6 @@ later_ballot = ballot_by 1 2
 abbrev key_2 : Key
 key_2 = record { node = 1; start = 2; serial = 1; byte = 66 }
 
-abbrev first_vote : Vote
-first_vote = record { place = 0; ballot = ballot_1; value = first_batch }
-
 module _ (p : Parts) where
   -- a key of its second start waits
   abbrev up_2 : Up
@@ -189,7 +185,7 @@ module _ (p : Parts) where
       ▸ starts 1 refl
       ▸ presses 1 (fresh p) refl key_2 refl refl
       ▸ campaigns 1 up_2 refl 2 0 (inl (omega arith))
-      ▸ hears 1 up_2 refl 5 _ None (Promise later_ballot 0 2 (first_vote ∷ []) ∷ []) refl (inl refl) tt
+      ▸ hears 1 up_2 refl 5 _ None (Promise later_ballot 0 2 (vote_at 0 ∷ []) ∷ []) refl (inl refl) tt
       ((refl, report _ _ _ ((omega arith, omega arith), tt)), tt)
       ▸ ticks 1 up_2 refl (Submit second_batch ∷ []) (typed_by _ 1 2 1 66 [] ((1, lit< tt, refl), tt), tt)
       ▸ proposes 1 up_2 refl 7 _ later_ballot 1 second_batch refl refl refl refl (safe_at_first (1 ∷ []) (lit< tt)
@@ -204,21 +200,18 @@ pub two_starts : (p : Parts) → (w : WorldState) × LeadsInSteps (one_new p) tw
     × HasLearned w 1 0 first_batch × HasLearned w 1 1 second_batch
     × AreChosen w.size w.sent (first_batch ∷ second_batch ∷ [])
     × AreInOrder (keys_in_order (first_batch ∷ second_batch ∷ []))
-two_starts p = (
-  _,
-  (starts_twice p).leads,
-  record {
-    node = _;
-    up = refl;
-    learned = get_put (insert empty 0 first_batch) 1 second_batch 0 ∙ get_here empty 0 first_batch;
-  },
-  has_learned _ refl refl,
-  are_chosen (first_batch ∷ second_batch ∷ []) (
-    (ballot_1, chosen_by (starts_twice p).end.sent (1 ∷ []) 4 (lit< tt) refl),
-    ((later_ballot, chosen_by (starts_twice p).end.sent (1 ∷ []) 9 (lit< tt) refl), tt),
-  ),
-  λ node start. (length (serials_of node start (keys_in_order (first_batch ∷ second_batch ∷ []))), grind (arith, nat_tests)),
-)
+two_starts p =
+    let first = get_put (insert empty 0 first_batch) 1 second_batch 0 ∙ get_here empty 0 first_batch in (
+      _,
+      (starts_twice p).leads,
+      record { node = _; up = refl; learned = first },
+      has_learned _ refl refl,
+      are_chosen (first_batch ∷ second_batch ∷ []) (
+        (ballot_1, chosen_by (starts_twice p).end.sent (1 ∷ []) 4 (lit< tt) refl),
+        ((later_ballot, chosen_by (starts_twice p).end.sent (1 ∷ []) 9 (lit< tt) refl), tt),
+      ),
+      λ node start. (length (serials_of node start (keys_in_order (first_batch ∷ second_batch ∷ []))), grind (arith, nat_tests)),
+    )
 
 -- ---- a node releases again
 

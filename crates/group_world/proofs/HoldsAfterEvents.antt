@@ -1,9 +1,8 @@
 -- Whatever events happen, a world stays sound and ordered. What it has sent and shown only grows,
 -- and what was learned stays.
 use Rattle.std.proofs.lemmas.Grind.{common_steps}
-use Rattle.std.proofs.Common.{◌≡◌, ℕ, ◌+◌, ◌<◌, Bool, List, [], ◌∷◌, ◌++◌, get_or, length, take, Option, Result, IfOk, OnErr, refl, sym, subst, ap, ◌∙◌, None, Some, append-nil, append_assoc, arith}
+use Rattle.std.proofs.Common.{◌≡◌, ℕ, ◌+◌, ◌<◌, Bool, List, [], ◌∷◌, ◌++◌, get_or, length, take, Option, Result, IfOk, OnErr, refl, sym, subst, ap, ◌∙◌, append-nil, append_assoc, arith}
 use Rattle.std.proofs.lemmas.List.{take_more}
-use Rattle.std.proofs.lemmas.Option.{slice_get-get_or}
 use Rattle.pcode_file.specs.Parts.{Parts}
 use Rattle.paxos_msg.specs.declared.message.Group.{Group}
 use Rattle.paxos_msg.specs.Fits.{IsGroup}
@@ -14,30 +13,30 @@ use Rattle.group_world.specs.declared.event.Event.{Event}
 use Rattle.group_world.specs.declared.fault.WorldFault.{WorldFault}
 use Rattle.group_world.specs.Event.{DoesAt, Goes, HearsOf, IsDeedOf, IsStep, IsStepAt, LeadsBy}
 use Rattle.group_world.specs.Group.{messages_in, new_world, World, world_state}
+use Rattle.group_world.proofs.SoundWorldsAgree.{ChoiceLaws}
 use Rattle.group_world.proofs.OrderLists.{in_from_place}
 use Rattle.group_world.specs.Ordered.{Holds, IsOrdered}
-use Rattle.group_world.specs.Refusals.{IsFirstRefused, IsRefused}
 use Rattle.group_world.specs.Sound.{IsSound}
 use Rattle.paxos_msg.specs.declared.value.Value.{Value}
-use Rattle.paxos_msg.specs.Batches.{Grew, Record, Sent, Body, Change}
+use Rattle.paxos_msg.specs.Batches.{Sent, Body, Change}
 use Rattle.paxos_msg.specs.Chosen.{IsChosen}
 use Rattle.group_world.specs.Headline.{LearnedChosen, LearnedStays, ConsolesGrow}
 use Rattle.std.proofs.lemmas.Bool.Decides.{nat_tests}
 use Rattle.std.proofs.lemmas.Bool.{cases_eq}
 use Rattle.pcode_machine.specs.Runs.{IsPrefix}
-use Rattle.paxos_msg.specs.declared.record.Change.TheVariants as change
 use Rattle.paxos_msg.specs.Keys.{Key}
 use Rattle.paxos_msg.specs.Messages.{messages_of}
-use Rattle.group_node.specs.Deeds as deed
 use Rattle.group_node.specs.Deeds.{Deed}
 use Rattle.group_protocol.specs.Packets.{Datagram}
-use Rattle.group_node.specs.World.{CallOrFall, ChangesOnly, MakesCall, Seat, WorldState, WorldStep}
+use Rattle.group_node.specs.World.{ChangesOnly, MakesCall, WorldState}
 
 -- the laws of one event
 pub record EventLaws : Type 0 where
   pub sound_first : (p : Parts) (group : Group) → IsSize group.size → IsGroup group → IsSound (new_world p group)
   pub sound : (w v : World) (i : ℕ) (plan : Option Bool) (deed : Deed) (d : Done) → IsSound w → HearsOf w.group w.sent deed
       → DoesAt w i plan deed d v → IsSound v
+  pub step : (w v : World) (i : ℕ) (plan : Option Bool) (deed : Deed) (d : Done) → IsSound w → HearsOf w.group w.sent deed
+      → DoesAt w i plan deed d v → IsStepAt (world_state w) i deed d (world_state v)
   pub ordered_first : (p : Parts) (group : Group) → IsOrdered (new_world p group)
   pub ordered : (w v : World) (i : ℕ) (plan : Option Bool) (deed : Deed) (d : Done) → IsSound w → IsSound v → IsOrdered w
       → DoesAt w i plan deed d v → IsOrdered v
@@ -85,12 +84,6 @@ pub happens_next : (w : World) (events : List Event) (v : World) (i : ℕ) (defa
 happens_next w events v i default d u less h goes =
     grind (arith, take_more events i default less, happens_then w _ (get_or events i default ∷ []) v u h (u, d, goes, refl))
 
--- the first event that is refused, after those that happened
-pub first_refused : (w : World) (events : List Event) (v : World) (i : ℕ) (default : Event)
-    (f : WorldFault) → i < length events → LeadsBy w (take i events) v
-    → IsRefused v (get_or events i default).act f → IsFirstRefused w events i f
-first_refused w events v i default f less h refused = grind (arith, slice_get-get_or events i default less)
-
 -- ---- what only grows
 
 -- between two moments the size stays, more was sent, and each console has shown more
@@ -127,50 +120,22 @@ module _ (w v : WorldState) where
     consoles = λ j. grind (arith, nat_tests, cases_eq j i, rest.others j, own, append-nil);
   }
 
-  -- one node changes, and its console does not
-  grows_silent : (i : ℕ) (bodies : List Body) (keys : List Key) → ChangesOnly w v i bodies keys
-      → (v.seats i).console ≡ (w.seats i).console → Grows w v
-  grows_silent i bodies keys rest e = grows_at i bodies keys rest (rw e (prefix_refl _))
-
   call_grows : (i : ℕ) (c : Option Change) (keys : List Key) → MakesCall w v i c keys → Grows w v
-  call_grows i c keys h = grows_silent i h.bodies keys h.rest (ap (λ (s : Seat). s.console) h.left)
+  call_grows i c keys h = grows_at i h.bodies keys h.rest (rw h.left (prefix_refl _))
 
-  call_or_fall_grows : (i : ℕ) (c : Option Change) → CallOrFall w v i c → Grows w v
-  call_or_fall_grows i c h = grind (arith, nat_tests, call_grows i, grows_silent i [] [])
-
-  -- each deed in a group
-  step_grows : (i : ℕ) (e : Deed) → WorldStep w i e v → Grows w v
-  step_grows i deed.Idle h = grows_none w v h
-  step_grows i (deed.Press byte) h = call_grows i None _ h.call
-  step_grows i (deed.Hear message) h = call_or_fall_grows i h.saved h.call
-  step_grows i deed.Campaign h = call_or_fall_grows i (Some (change.Promise (record { round = h.round; node = i }))) h.call
-  step_grows i deed.Tick h = call_grows i None [] h
-  step_grows i (deed.Run steps) h = grows_silent i [] [] h.rest (cc)
-  step_grows i deed.Release h =
-      grows_at i [] [] h.rest (grind (arith, nat_tests, append-nil))
-  step_grows i deed.Crash h = grows_silent i [] [] h.rest (cc)
-  step_grows i (deed.Start r) h = grind (arith, nat_tests, grows_silent i [] [])
-
-  -- and each one that a node answers
+  -- each deed that a node answers
   answered_grows : (i : ℕ) (e : Deed) (d : Done) → IsStepAt w i e d v → Grows w v
-  answered_grows i e d h = grind (arith, nat_tests, step_grows i e, grows_none w v)
+  answered_grows i e d h =
+      grind (arith, nat_tests, grows_none w v, call_grows i, grows_at i [] [], append-nil)
 
 -- ---- worlds
 
 -- the laws of agreement, and of what stays chosen
 pub record ChosenLaws : Type 0 where
   pub learned : (w : World) → IsSound w → LearnedChosen (world_state w)
-  pub one : (size s : ℕ) (sent : Sent) (records : ℕ → Record) (v u : Value)
-      → Grew size sent records → IsChosen size sent s v → IsChosen size sent s u → v ≡ u
+  pub choice : ChoiceLaws
   pub stays : (size s : ℕ) (sent more : Sent) (v : Value) → IsChosen size sent s v
       → IsChosen size (sent ++ more) s v
-
--- the laws of one event too
-pub record LaterWorldLaws : Type 0 where
-  pub events : EventLaws
-  pub step : (w v : World) (i : ℕ) (plan : Option Bool) (deed : Deed) (d : Done) → IsSound w → HearsOf w.group w.sent deed
-      → DoesAt w i plan deed d v → IsStepAt (world_state w) i deed d (world_state v)
-  pub chosen : ChosenLaws
 
 -- a world grows by an event, whether that is refused or not
 pub answer_grows : (w v : World) (act : Act) (answer : Result Done WorldFault)
@@ -186,16 +151,16 @@ grown_learned laws w v first second grown i j s a b has other =
     let chosen : IsChosen w.group.size (world_state w).sent s a = (laws.learned w first i s a has).0 in
     let still = subst (λ n. IsChosen n (world_state v).sent s a) (sym grown.size)
     (rw grown.sent (laws.stays w.group.size s _ grown.more a chosen)) in
-    laws.one v.group.size s _ (λ k. ((world_state v).seats k).kept) a b second.grew still (laws.learned v second j s b other).0
+    laws.choice.one v.group.size s _ (λ k. ((world_state v).seats k).kept) a b second.grew still (laws.learned v second j s b other).0
 
-module _ (laws : LaterWorldLaws) where
+module _ (laws : EventLaws) where
   happens_grows : (w : World) (events : List Event) (v : World) → Holds w → LeadsBy w events v
       → Grows (world_state w) (world_state v)
   happens_grows w [] v h e = subst (λ u. Grows (world_state w) (world_state u)) (sym e) (grows_none _ _ refl)
   happens_grows w (e ∷ events) v h (mid, d, goes, rest) =
       let heard = heard_by w.group w.sent e.act goes.deed goes.is_deed in
       let first = answered_grows _ _ _ goes.deed d (laws.step w mid _ _ goes.deed d h.sound heard goes.does) in
-      let held = one_holds laws.events e d h goes in
+      let held = one_holds laws e d h goes in
       grows_through _ _ _ first (happens_grows mid events v held rest)
 
   -- what holds of two sound and ordered worlds, the second of which has grown, holds of a world
@@ -205,5 +170,5 @@ module _ (laws : LaterWorldLaws) where
       → (p : Parts) (group : Group) (events more : List Event) (w v : World) → IsSize group.size → IsGroup group
       → LeadsBy (new_world p group) events w → LeadsBy w more v → P w v
   later by p group events more w v size session before then =
-      let first = always laws.events (λ w h. h) p group events w size session before in
-      by w v first (happens_holds laws.events w more v first then) (happens_grows w more v first then)
+      let first = always laws (λ w h. h) p group events w size session before in
+      by w v first (happens_holds laws w more v first then) (happens_grows w more v first then)

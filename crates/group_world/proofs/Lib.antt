@@ -9,16 +9,11 @@ mod WrittenVotes
 mod OrderPossible
 mod HoldsAfterEvents
 mod SmallPrograms
-mod SendingCalls
-mod MemberCalls
 mod GroupCalls
 mod ProcessEvents
-mod TimedLogs
-mod LogEnds
 mod WrittenLogs
 mod WrongLogs
 mod WitnessLogs
 pub mod ScriptLines
-mod WrongGroups
 mod ChainedSteps
 mod GroupsReached

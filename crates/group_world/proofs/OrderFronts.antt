@@ -1,9 +1,8 @@
 -- The keys of chosen values, each once, are in order if each value was due; and in an ordered world
 -- each was.
-use Rattle.std.proofs.Common.{◌≡◌, ◌∙◌, ℕ, ◌+◌, ◌<◌, ◌≤◌, Bool, true, false, List, [], ◌∷◌, ◌++◌, length, if◌then◌else◌, refl, sym, ap, subst, inl, inr, append_assoc, arith, IsTrue, ◌↔◌}
+use Rattle.std.proofs.Common.{slice_get, Some, ◌≡◌, ◌∙◌, ℕ, ◌+◌, ◌<◌, ◌≤◌, Bool, true, false, List, [], ◌∷◌, ◌++◌, length, if◌then◌else◌, refl, sym, ap, subst, inl, inr, append_assoc, arith, IsTrue, ◌↔◌, append-nil}
 use Rattle.std.proofs.lemmas.Bool.{cases_lt, both_ways}
 use Rattle.std.proofs.lemmas.Bool.Decides.{nat_tests}
-use Rattle.std.proofs.lemmas.List.{append-nil}
 use Rattle.std.proofs.lemmas.List.Elements.{Contains-append_left, Contains-append_right, Contains-get_or, Contains-push}
 use Rattle.std.proofs.lemmas.List.Quantifiers.{all_pairs_push}
 use Rattle.std.proofs.lemmas.List.Concat.{flat_map-append}
@@ -67,12 +66,10 @@ module _ (keys : List Key) (k : Key) (h : AreOrderly keys) (follows : Follows ke
   next_serial : (n : ℕ) → serials_of k.node k.start keys ≡ range_with_len 1 n → 1 + n ≡ k.serial
   next_serial n e =
       let (low, high) = around follows in
-      elim (cases_lt n k.serial) [
-        | inl above ↦ omega arith
-        | inr within ↦
-            let has = serial_of keys k.node k.start k.serial (rw e (in_range 1 n k.serial low (omega arith))) in
-            absurd (new has.key has.among (record { node = has.node_is; start = has.start_is; serial = has.serial_is }))
-      ]
+      let past : ¬ (k.serial < 1 + n) = λ within.
+      let has = serial_of keys k.node k.start k.serial (rw e (in_range 1 n k.serial low within)) in
+      new has.key has.among (record { node = has.node_is; start = has.start_is; serial = has.serial_is }) in
+      omega arith
     where
       around : Follows keys k.node k.start k.serial → (1 ≤ k.serial) × (k.serial ≤ n + 1)
       around (begins one) = (omega arith, omega arith)
@@ -80,24 +77,22 @@ module _ (keys : List Key) (k : Key) (h : AreOrderly keys) (follows : Follows ke
           let inside = of_range 1 n before (subst (λ l. Contains l before) e (serial_in keys k.node k.start before has)) in
           (omega arith, omega (arith, inside.1))
 
-  -- the order goes on with it
-  next_order : AreInOrder (keys ++ k ∷ [])
-  next_order node start = by (is_of node start k) refl where
-    by : (own : Bool) → is_of node start k ≡ own → (n : ℕ) × (serials_of node start (keys ++ k ∷ []) ≡ range_with_len 1 n)
-    by true own =
-        let (n, row) = h.order node start in
-        let (e, f) = of_test node start k own in
-        (n + 1, row_more node start n keys k own (next_serial n (rw (e, f) row)) row)
-    by false other = let (n, row) = h.order node start in (n, rw (other_more node start keys k other) row)
-
-  -- and no key is there twice
+  -- no key is there twice, and the order goes on with it
   next_orderly : AreOrderly (keys ++ k ∷ [])
   next_orderly = record {
     once =
         all_pairs_push (λ (x y : Key). ¬ HaveOneName x y) keys k h.once
         (λ i d below. new _ (Contains-get_or keys i d below));
-    order = next_order;
+    order = λ node start. by node start _ refl;
   }
+    where
+      by : (node start : ℕ) (own : Bool) → is_of node start k ≡ own
+          → (n : ℕ) × (serials_of node start (keys ++ k ∷ []) ≡ range_with_len 1 n)
+      by node start true own =
+          let (n, row) = h.order node start in
+          let (e, f) = of_test node start k own in
+          (n + 1, row_more node start n keys k own (next_serial n (rw (e, f) row)) row)
+      by node start false other = let (n, row) = h.order node start in (n, rw (other_more node start keys k other) row)
 
 -- ---- the keys of values, one after another
 
@@ -118,15 +113,9 @@ module _ (laws : OrderLaws) where
     abbrev IsFront : List Value → Type 0
     IsFront values = AreChosen w.group.size (world_state w).sent values
 
-    abbrev IsPick : ℕ → Value → Type 0
-    IsPick s v = IsChosen w.group.size (world_state w).sent s v
-
-    -- one value is chosen at a place
-    one_value : (s : ℕ) (v u : Value) → IsPick s v → IsPick s u → v ≡ u
-    one_value s v u = laws.choice.one w.group.size s _ _ v u sound.grew
-
     -- a chosen value has typed keys, and is due
-    chosen_is : (s : ℕ) (v : Value) → IsPick s v → AreTyped (keys_of v) × IsDue w.group.size (world_state w).sent v
+    chosen_is : (s : ℕ) (v : Value) → IsChosen w.group.size (world_state w).sent s v
+        → AreTyped (keys_of v) × IsDue w.group.size (world_state w).sent v
     chosen_is s v chosen =
         let free = laws.choice.free w.group.size s _ _ v sound.grew chosen in
         (typed_of laws.choice w sound v free, grind (arith, nat_tests, ordered.due v))
@@ -142,23 +131,21 @@ module _ (laws : OrderLaws) where
     pub chosen_typed : (values : List Value) → IsFront values → AreTyped (keys_in_order values)
     chosen_typed values front k among = front_typed values front k (of_firsts (all_keys values) k among)
 
+    -- one value is chosen at a place, so that of one front is in each other front that has the place
+    also_in : (one other : List Value) (s : ℕ) (v : Value) → IsFront one → IsFront other → slice_get one s ≡ Some v → s < length other
+        → Contains other v
+    also_in one other s v front far at less =
+        let there = slice_get-get_or other s v less in
+        let same = laws.choice.one w.group.size s _ _ _ v sound.grew (far.chosen s _ there) (front.chosen s v at) in
+        in_from_place other s v (rw same at there)
+
     -- of two fronts the keys of the shorter one are among those of the longer one
     shorter_in : (below values : List Value) → IsFront below → IsFront values → length below ≤ length values
         → (k : Key) → Contains (all_keys below) k → Contains (all_keys values) k
     shorter_in below values low front less k h =
         let (v, among, here) = of_flat_map keys_of below k h in
         let (s, at) = place_of below v among in
-        let there = slice_get-get_or values s v (omega (arith, slice_get_within below s v at)) in
-        let same = one_value s _ v (front.chosen s _ there) (low.chosen s v at) in
-        in_flat_map keys_of values v k (in_from_place values s v (rw same at there)) here
-
-    -- a front that has more places than these has the value of the next one
-    longer_has : (below values more : List Value) (v : Value) → IsFront below → IsFront (values ++ v ∷ more)
-        → length values < length below → Contains below v
-    longer_has below values more v low front less =
-        let there = slice_get-get_or below (length values) v less in
-        let same = one_value _ _ v (low.chosen _ _ there) (front.chosen _ v (here_place values v more)) in
-        in_from_place below (length values) v (rw same at there)
+        in_flat_map keys_of values v k (also_in below values s v low front at (omega (arith, slice_get_within below s v at))) here
 
     -- the first of chosen values are chosen
     front_left : (values more : List Value) → IsFront (values ++ more) → IsFront values
@@ -207,8 +194,9 @@ module _ (laws : OrderLaws) where
         let v = Keys node start first _ in
         let k : Key = record { node = node; start = start; serial = first; byte = byte } in
         elim (cases_lt (length values) (length p.below)) [
-          | inl less ↦ absurd (p.lacks (own_serial k (in_firsts _ k
-              (in_flat_map keys_of p.below v k (longer_has p.below values more v p.chosen front less) (first_in k _)))))
+          | inl less ↦
+              let there = also_in (values ++ v ∷ more) p.below _ v front p.chosen (here_place values v more) less in
+              absurd (p.lacks (own_serial k (in_firsts _ k (in_flat_map keys_of p.below v k there (first_in k _)))))
           | inr within ↦ goes_on p.before p.next (has_in
               (λ x here. shorter_in p.below values p.chosen (front_left values (v ∷ more) front) within x (of_firsts _ x here)) p.has)
         ]
@@ -237,6 +225,5 @@ module _ (laws : OrderLaws) where
 
     -- order and once
     pub front_orderly : (values : List Value) → IsFront values → AreOrderly (keys_in_order values)
-    front_orderly values front = values_orderly [] values nothing front where
-      nothing : AreOrderly []
-      nothing = record { once = λ i j d less below. absurd (omega arith); order = λ node start. (0, refl) }
+    front_orderly values front =
+        values_orderly [] values (record { once = λ i j d less below. absurd (omega arith); order = λ node start. (0, refl) }) front

@@ -3,7 +3,7 @@
 -- sound and ordered, for the law `possible`.
 use Rattle.std.proofs.lemmas.Bool.Decides.{nat_tests}
 use Rattle.std.specs.List.{AllByRecursion as EachOf, list_any, Contains, flat_map}
-use Rattle.std.proofs.Common.{false, ◌≡◌, ◌≢◌, ◌<◌, ℕ, zero, suc, List, [], ◌∷◌, ◌++◌, map, Some, IfSome, refl, inl, inr, arith, lit<, All, None}
+use Rattle.std.proofs.Common.{false, ◌≡◌, ◌<◌, ℕ, zero, suc, List, [], ◌∷◌, ◌++◌, map, Some, IfSome, refl, inl, inr, arith, lit<, All, None}
 use Rattle.std.proofs.lemmas.List.Elements.{All-from_recursion, Contains-push}
 use Rattle.pcode_file.specs.Parts.{Parts}
 use Rattle.paxos_msg.specs.declared.message.Body.TheVariants.{Accept, Prepare, Submit, Tell, Accepted, Promise}
@@ -67,12 +67,6 @@ packets = map to_all (Promise ballot 0 65536 [] ∷ (said_of 0 batch_a ++ (said_
 abbrev records_of : Record → ℕ → Record
 records_of r i = (seat_of_member (member_at (stopped r ∷ []) i)).kept
 
-records_empty : (i : ℕ) → records_of empty_record i ≡ empty_record
-records_empty n = grind (arith, nat_tests)
-
-other_records : (r s : Record) (j : ℕ) → j ≢ 1 → records_of r j ≡ records_of s j
-other_records r s n ne = grind (arith, nat_tests)
-
 -- what this node has sent, and its record
 record Grown : Type 0 where
   sent : Sent
@@ -92,13 +86,13 @@ and_saved g c may = record {
   sent = g.sent;
   kept = changed g.kept c;
   grew = saves g.sent (records_of g.kept) (records_of (changed g.kept c)) 1 c g.grew may
-      (record { own = refl; others = other_records (changed g.kept c) g.kept });
+      (record { own = refl; others = λ j ne. grind (arith, nat_tests) });
 }
 
 -- the node starts, and promises the ballot
 abbrev begun : Grown
 begun =
-    let first : Grown = record { sent = []; kept = empty_record; grew = nothing _ records_empty } in
+    let first : Grown = record { sent = []; kept = empty_record; grew = nothing _ (λ i. grind (arith, nat_tests)) } in
     let saved = and_saved (and_saved first change.Start tt) (change.Promise ballot) tt in
     and_sent saved (Promise ballot 0 65536 []) (refl, report saved.kept 0 65536 tt)
 
@@ -117,20 +111,18 @@ with_batch g s v own promise place said none vote =
     and_sent voted (Accepted ballot s v) ((1, Contains-push _ _), vote, refl)
 
 -- the keys of each batch were typed at the node
-typed_a : IsTyped typed 1 batch_a
-typed_a = typed_by typed 1 1 1 65 [] ((0, lit< tt, refl), tt)
-
-typed_ab : IsTyped typed 1 batch_ab
-typed_ab = typed_by typed 1 1 1 65 (66 ∷ []) ((0, lit< tt, refl), ((1, lit< tt, refl), tt))
-
-typed_c : IsTyped typed 1 batch_c
-typed_c = typed_by typed 1 1 3 67 [] ((2, lit< tt, refl), tt)
+were_typed : IsTyped typed 1 batch_a × IsTyped typed 1 batch_ab × IsTyped typed 1 batch_c
+were_typed = (
+  typed_by typed 1 1 1 65 [] ((0, lit< tt, refl), tt),
+  typed_by typed 1 1 1 65 (66 ∷ []) ((0, lit< tt, refl), ((1, lit< tt, refl), tt)),
+  typed_by typed 1 1 3 67 [] ((2, lit< tt, refl), tt),
+)
 
 abbrev grown : Grown
 grown =
-    let with_a = with_batch begun 0 batch_a typed_a refl (omega arith) (0, lit< tt, refl) refl refl in
-    let with_ab = with_batch with_a 1 batch_ab typed_ab refl (omega arith) (0, lit< tt, refl) refl refl in
-    with_batch with_ab 2 batch_c typed_c refl (omega arith) (0, lit< tt, refl) refl refl
+    let with_a = with_batch begun 0 batch_a were_typed.0 refl (omega arith) (0, lit< tt, refl) refl refl in
+    let with_ab = with_batch with_a 1 batch_ab were_typed.1 refl (omega arith) (0, lit< tt, refl) refl refl in
+    with_batch with_ab 2 batch_c were_typed.2 refl (omega arith) (0, lit< tt, refl) refl refl
 
 abbrev sent_3 : Sent
 sent_3 = grown.sent
@@ -157,8 +149,6 @@ group = record { size = 1; session = 0 }
 abbrev pub me : Me
 me = record { node = 1; group = group }
 
--- ---- what each message says
-
 -- the third batch is due after the first two
 due_c : IsDue 1 sent_3 batch_c
 due_c = inr (record {
@@ -179,7 +169,8 @@ Says i (Tell s v) = ⊥
 Says i other = Unit {0}
 
 all_say : EachOf (λ (m : Msg). Says m.sender m.body) sent_3
-all_say = (tt, ((typed_a, inl refl), (refl, (tt, ((typed_ab, inl refl), (refl, (tt, ((typed_c, due_c), (refl, (tt, tt))))))))))
+all_say =
+    let (a, ab, c) = were_typed in (tt, ((a, inl refl), (refl, (tt, ((ab, inl refl), (refl, (tt, ((c, due_c), (refl, (tt, tt))))))))))
 
 says : (i : ℕ) (body : Body) → Contains sent_3 (record { sender = i; body = body }) → Says i body
 says i body among = each_of (λ (m : Msg). Says m.sender m.body) sent_3 _ all_say among
@@ -204,17 +195,10 @@ example p = record {
   typed = batch_a ∷ Keys 1 1 2 (66 ∷ []) ∷ batch_c ∷ [];
 }
 
--- the node is sound
-node_sound : (p : Parts) → IsMemberSound p me sent_3 typed (stopped kept_3)
-node_sound p =
-    grind (arith, vote_backed)
-
 -- what holds of the node holds of each
 each_member : (P : ℕ → Member → Type 0) → P 1 (stopped kept_3) → (i : ℕ) (m : Member)
     → member_at (stopped kept_3 ∷ []) i ≡ Some m → P i m
 each_member x h n m e = grind (arith, nat_tests)
-
--- ---- it is ordered
 
 -- ---- with the law that a spelling is read
 
@@ -236,18 +220,14 @@ module _ (read : ReadLaw) where
     grew = rw sent_is grown.grew;
     told = rw sent_is (λ s v said. absurd (says said.0 (Tell s v) said.1));
     submitted = rw sent_is (λ i v among. (says i _ among).0);
-    members = rw sent_is (each_member (λ i m. IsMemberSound p (me_of (example p) i) sent_3 typed m) (node_sound p));
+    members = rw sent_is (each_member (λ i m. IsMemberSound p (me_of (example p) i) sent_3 typed m) (grind (arith, vote_backed)));
   }
 
   example_ordered : (p : Parts) → IsOrdered (example p)
   example_ordered p = record {
     keys = record {
       once = λ i j d less below name. grind (arith, name.serial);
-      past = λ k m among at. omega (
-        arith,
-        each_of (λ (x : Key). x.start ≡ 1) typed k (refl, (refl, (refl, tt))) among,
-        each_member (λ i m. m.kept.starts ≡ 1) refl k.node m at,
-      );
+      past = λ k m among at. grind (arith, nat_tests);
       nodes = each_member (λ i m. IfSome m.node (λ q. IsRowOf typed i m.kept q.known)) tt;
     };
     due = rw sent_is (λ v said. (says said.0 _ said.1).1);

@@ -1,6 +1,7 @@
 -- The keys of one start of a node among other keys: their serials, and the typed ones as a row.
 -- What follows for the keys that wait, and how the row goes on.
-use Rattle.std.proofs.Common.{◌≡◌, ◌∙◌, ℕ, true, false, List, [], ◌∷◌, ◌++◌, map, get_or, inl, inr, refl, sym, ap, subst, zero, suc, ◌+◌, length, ◌⊎◌, append_assoc, arith, ◌<◌, length-append}
+use Rattle.std.proofs.Common.{◌≡◌, ◌∙◌, ℕ, true, false, List, [], ◌∷◌, ◌++◌, map, get_or, inl, inr, refl, sym, ap, subst, ◌≢◌, ◌+◌, ◌-◌, length, ◌⊎◌, append_assoc, arith, ◌<◌, length-append}
+use Rattle.std.proofs.lemmas.Bool.{cases_eq}
 use Rattle.std.proofs.lemmas.Bool.Decides.{nat_tests}
 use Rattle.std.proofs.lemmas.List.{append-nil, get_or_default, map-append, length-map, get_or-map, get_or_at, get_or_append_left}
 use Rattle.std.proofs.lemmas.List.Elements.{filter-append, Contains-append_left, Contains-append_right, All-append, All-contains, All-nil, All-weaker, Contains-get_or}
@@ -22,12 +23,6 @@ use Rattle.group_protocol.proofs.Elements.{first_in}
 pub of_test : (node start : ℕ) (k : Key) → is_of node start k ≡ true → (k.node ≡ node) × (k.start ≡ start)
 of_test node start k h = grind (arith, nat_tests)
 
-test_of : (node start : ℕ) (k : Key) → k.node ≡ node → k.start ≡ start → is_of node start k ≡ true
-test_of node start k e f = grind (arith, nat_tests)
-
-not_of : (node start : ℕ) (k : Key) → ((k.node ≡ node) → (k.start ≡ start) → ⊥) → is_of node start k ≡ false
-not_of node start k ne = grind (arith, nat_tests, ne)
-
 -- ---- serials as elements
 
 -- the serial of one of the keys
@@ -37,7 +32,7 @@ own_serial k among = record { key = k; among = among; node_is = refl; start_is =
 pub serial_in : (keys : List Key) (node start serial : ℕ) → HasSerial keys node start serial → Contains (serials_of node start keys) serial
 serial_in keys node start serial h =
     rw h.serial_is at (in_map (λ (k : Key). k.serial) _ h.key
-    (in_filter (is_of node start) keys h.key h.among (test_of node start h.key h.node_is h.start_is)))
+    (in_filter (is_of node start) keys h.key h.among (grind (arith, nat_tests, h.node_is, h.start_is))))
 
 pub serial_of : (keys : List Key) (node start serial : ℕ) → Contains (serials_of node start keys) serial → HasSerial keys node start serial
 serial_of keys node start serial h =
@@ -56,11 +51,6 @@ has_in within h =
 
 -- ---- one key more
 
--- a key of the start is the last of its keys
-own_more : (node start : ℕ) (keys : List Key) (k : Key) → is_of node start k ≡ true
-    → those_of node start (keys ++ k ∷ []) ≡ those_of node start keys ++ k ∷ []
-own_more node start keys k e = rw (filter-append, e) refl
-
 -- another key changes nothing
 pub other_more : (node start : ℕ) (keys : List Key) (k : Key) → is_of node start k ≡ false
     → those_of node start (keys ++ k ∷ []) ≡ those_of node start keys
@@ -71,7 +61,7 @@ pub row_more : (node start last : ℕ) (keys : List Key) (k : Key) → is_of nod
     → serials_of node start keys ≡ range_with_len 1 last
     → serials_of node start (keys ++ k ∷ []) ≡ range_with_len 1 (last + 1)
 row_more node start last keys k own next row =
-    rw (own_more node start keys k own, map-append, row) (sym (range_more 1 last k.serial next))
+    rw (filter-append, own, map-append, row) (sym (range_more 1 last k.serial next))
 
 -- ---- keys that are apart
 
@@ -94,7 +84,7 @@ pub record IsParted (read keys stay : List Key) : Type 0 where
 pub fresh_row : (typed : List Key) (i start : ℕ) (read : List Key)
     → ((k : Key) → Contains typed k → k.node ≡ i → k.start ≡ start → ⊥) → AreTypedKeys typed i start 0 [] read
 fresh_row typed i start read none =
-    let none_yet = filter_none _ typed (λ k among. not_of i start k (none k among)) in
+    let none_yet = filter_none _ typed (λ k among. grind (arith, nat_tests, none k among)) in
     record { serials = ap (map (λ (k : Key). k.serial)) none_yet; gone = []; newest = none_yet; below = All-nil _; first = tt }
 
 module _ {typed : List Key} {i start last : ℕ} {waiting read : List Key} (h : AreTypedKeys typed i start last waiting read) where
@@ -107,11 +97,8 @@ module _ {typed : List Key} {i start last : ℕ} {waiting read : List Key} (h : 
       ap (λ (y : Key). y.serial) (sym at) ∙ sym (get_or-map (λ (y : Key). y.serial) keys k x 0 low)
       ∙ ap (λ l. get_or l k 0) row ∙ get_or-range_with_len 1 last k 0 within
 
-  -- a typed key of this start
-  abbrev IsOwn : Key → Type 0
-  IsOwn k = Contains typed k × (k.node ≡ i) × (k.start ≡ start)
-
-  own_key : (k : Key) → Contains (h.gone ++ waiting) k → IsOwn k
+  -- it is a typed key of this start
+  own_key : (k : Key) → Contains (h.gone ++ waiting) k → Contains typed k × (k.node ≡ i) × (k.start ≡ start)
   own_key k among =
       let (here, own) = of_filter _ typed k (subst (λ l. Contains l k) (sym h.newest) among) in
       let (e, f) = of_test i start k own in (here, e, f)
@@ -123,8 +110,9 @@ module _ {typed : List Key} {i start last : ℕ} {waiting read : List Key} (h : 
       (ap (λ l. get_or (h.gone ++ l) (length h.gone) key) e ∙ get_or_at h.gone key keys key _ refl)
 
   -- if some key no longer waits, the last of those is read
-  last_gone : (n : ℕ) → length h.gone ≡ n + 1 → HasSerial read i start (length h.gone)
-  last_gone n e =
+  last_gone : length h.gone ≢ 0 → HasSerial read i start (length h.gone)
+  last_gone some =
+      let n = length h.gone - 1 in
       let low : n < length h.gone = omega arith in
       let key : Key = get_or h.gone n (record { node = i; start = start; serial = 0; byte = 0 }) in
       let among : Contains h.gone key = Contains-get_or h.gone n _ low in
@@ -147,13 +135,13 @@ module _ {typed : List Key} {i start last : ℕ} {waiting read : List Key} (h : 
       → ((k : Key) → Contains read k → Contains typed k)
       → AreTypedKeys (typed ++ key ∷ []) i start (last + 1) (waiting ++ key ∷ []) read
   typed_row key of_node of_start next was =
-      let own = test_of i start key of_node of_start in
+      let own : is_of i start key ≡ true = grind (arith, nat_tests) in
       let name : HaveOneName key key = record { node = refl; start = refl; serial = refl } in
       let out = λ (among : Contains read key). new_name key of_node of_start next key (was key among) name in
       record {
         serials = row_more i start last typed key own (omega arith) h.serials;
         gone = h.gone;
-        newest = own_more i start typed key own ∙ ap (λ l. l ++ key ∷ []) h.newest ∙ append_assoc h.gone waiting _;
+        newest = rw (filter-append, own, h.newest) (append_assoc h.gone waiting _);
         below = h.below;
         first = grind (arith, nat_tests, h.first, out);
       }
@@ -161,7 +149,7 @@ module _ {typed : List Key} {i start last : ℕ} {waiting read : List Key} (h : 
   -- another node's key
   pub other_row : (key : Key) → (key.node ≡ i → ⊥) → AreTypedKeys (typed ++ key ∷ []) i start last waiting read
   other_row key ne =
-      let same = other_more i start typed key (not_of i start key (λ e f. ne e)) in
+      let same = other_more i start typed key (grind (arith, nat_tests, ne)) in
       record {
         serials = rw same h.serials;
         gone = h.gone;
@@ -199,17 +187,16 @@ module _ {size : ℕ} {sent : Sent} {typed : List Key} {i start last : ℕ} {wai
       (record { node = has.node_is; start = has.start_is; serial = has.serial_is }) in
       subst (IsFirstUnread (keys_in_order known)) waits h.first (subst (λ k. Contains (keys_in_order known) k) same has.among)
 
-  due_by : (many : ℕ) → length h.gone ≡ many → (key.serial ≡ 1) ⊎ IsPrepared size sent key.node key.start key.serial
-  due_by zero e = inl (first_serial h key keys waits ∙ omega arith)
-  due_by (suc n) e = inr (record {
-    below = known;
-    chosen = front;
-    before = length h.gone;
-    next = omega (arith, first_serial h key keys waits);
-    has = rw (first_waits.1, first_waits.2) (last_gone h n (omega arith));
-    lacks = first_lacks;
-  })
-
   -- the first that waits is due
   pub first_due : (key.serial ≡ 1) ⊎ IsPrepared size sent key.node key.start key.serial
-  first_due = due_by _ refl
+  first_due = elim (cases_eq (length h.gone) 0) [
+    | inl none ↦ inl (first_serial h key keys waits ∙ omega arith)
+    | inr some ↦ inr (record {
+      below = known;
+      chosen = front;
+      before = length h.gone;
+      next = omega (arith, first_serial h key keys waits);
+      has = rw (first_waits.1, first_waits.2) (last_gone h some);
+      lacks = first_lacks;
+    })
+  ]

@@ -2,8 +2,8 @@
 -- node, which leaves what the entry says. And a log in two parts has nodes in between.
 use Rattle.std.proofs.lemmas.Option.{same_Some, slice_get-get_or, slice_get_within}
 use Rattle.std.proofs.lemmas.List.{append-nil, length-set, nil_from_length}
-use Rattle.std.proofs.Common.{◌≡◌, ◌≢◌, ◌∙◌, ◌⊎◌, inl, inr, ℕ, zero, suc, ◌-◌, List, [], ◌∷◌, ◌++◌, append_assoc, length, slice_get, slice_set, get_or, Some, refl, sym, ap, subst, arith}
-use Rattle.std.proofs.lemmas.Bool.{eq-eqb, ne_eqb}
+use Rattle.std.proofs.lemmas.Bool.Decides.{nat_tests}
+use Rattle.std.proofs.Common.{◌≡◌, ◌≢◌, ◌∙◌, ◌⊎◌, inl, inr, ℕ, zero, suc, ◌-◌, List, [], ◌∷◌, ◌++◌, append_assoc, length, slice_get, slice_set, get_or, Some, refl, sym, ap, subst, arith, eq-eqb, ne_eqb}
 use Rattle.paxos_msg.specs.declared.message.Group.{Group}
 use Rattle.group_protocol.specs.Packets.{Datagram}
 use Rattle.group_node.specs.Deeds.{Campaign, Crash, Deed, Hear, Idle, Press, Release, Run, Start, Tick}
@@ -13,7 +13,7 @@ use Rattle.group_world.specs.declared.event.Event.{Event}
 use Rattle.group_world.specs.Event.{DoesAt, HearsOf, IsDeedOf, LeadsBy, node_of, plan_of}
 use Rattle.group_world.specs.Group.{World, me_of, member_at, messages_in}
 use Rattle.group_world.specs.Member.{Member}
-use Rattle.group_world.specs.Processes.{AreEvents, AreEventsOf, AreEventsOfEntry, DoesEntry, Entry, IsCarried, IsHistory, IsLog, after_log, entries_of, left_by, sent_in, typed_in, MayBeLogged, HasMoment}
+use Rattle.group_world.specs.Processes.{AreEventsOf, AreEventsOfEntry, DoesEntry, Entry, IsCarried, IsHistory, IsLog, after_log, entries_of, left_by, sent_in, typed_in, MayBeLogged, HasMoment}
 use Rattle.group_world.proofs.CallLeaves.{idle_leads}
 use Rattle.group_world.proofs.WorldAsGroup.{each_changed, changed_here, changed_elsewhere}
 use Rattle.group_world.proofs.HoldsAfterEvents.{happens_then, heard_by}
@@ -52,7 +52,7 @@ deed_has_act group sent i Release heard = inr (act.Release i, refl, refl)
 deed_has_act group sent i Crash heard = inr (act.Crash i, refl, refl)
 
 -- so each entry that hears what was sent before has its events
-log_has_events : (group : Group) (sent : List Datagram) (log : List Entry) → IsCarried group sent log
+pub log_has_events : (group : Group) (sent : List Datagram) (log : List Entry) → IsCarried group sent log
     → (events : List Event) × AreEventsOf group sent log events
 log_has_events group sent [] carried = ([], refl)
 log_has_events group sent (e ∷ log) (heard, carried) =
@@ -71,9 +71,7 @@ pub same_items : {X : Type 0} (xs ys : List X) → length ys ≡ length xs
 same_items [] ys long same = nil_from_length ys long
 same_items (x ∷ xs) [] long same = absurd cc
 same_items (x ∷ xs) (y ∷ ys) long same =
-    let first : y ≡ x = same zero x y refl refl in
-    let rest = same_items xs ys (omega arith) (λ k a b p q. same (suc k) a b p q) in
-    rw (first, rest) refl
+    let rest = same_items xs ys (omega arith) (λ k a b p q. same (suc k) a b p q) in rw (same zero x y refl refl, rest) refl
 
 -- a list that is as long has a node there too
 pub member_there : (members now : List Member) (i : ℕ) (last : Member) → length now ≡ length members → member_at now i ≡ Some last
@@ -121,11 +119,6 @@ events_lead (e ∷ log) w now events h (first, rest, one, more, is) =
     let then = rw (after_both w e log now mid) at (events_lead log (moved w e mid) now rest others more) in
     rw is (happens_then w first rest (moved w e mid) (after_log w (e ∷ log) now) (entry_leads w e m there mid first does one) then)
 
--- a log is what some events do
-pub log_leads : (log : List Entry) (w : World) (now : List Member) → IsLog w log now → AreEvents w log now
-log_leads log w now h =
-    let (events, are) = log_has_events w.group w.sent log h.carried in (events, are, events_lead log w now events h are)
-
 -- ---- events as a log
 
 -- an entry, and then a log
@@ -133,12 +126,7 @@ pub log_before : (w : World) (e : Entry) (log : List Entry) (now : List Member) 
     → member_at w.members e.node ≡ Some m → DoesEntry w.program (me_of w e.node) m e new → HearsOf w.group w.sent e.deed
     → IsLog (moved w e new) log now → IsLog w (e ∷ log) now
 log_before w e log now m new there does heard h =
-    grind (arith, length-set, member_there, own, changed_elsewhere)
-  where
-    own : (i : ℕ) (x z : Member) → i ≡ e.node → member_at w.members i ≡ Some x → member_at now i ≡ Some z
-        → IsHistory w.program (me_of w i) x (entries_of i (e ∷ log)) z
-    own i x z same x_at z_at =
-        grind (arith, changed_here w.members e.node m new there)
+    grind (arith, nat_tests, length-set, member_there, changed_here w.members e.node m new there, changed_elsewhere)
 
 pub no_log : (w v : World) → v ≡ w → IsLog w [] v.members × (v ≡ after_log w [] v.members)
 no_log w v is = grind (arith, append-nil w.sent, append-nil w.typed)

@@ -1,7 +1,7 @@
 -- The claims about a sound world, for the law `sound_worlds_agree`: what is learned is chosen, and
 -- what machines write and consoles show is output on chosen values. First, a console after a byte
 -- that its node releases.
-use Rattle.std.proofs.Common.{◌≡◌, ◌≢◌, ◌∙◌, ℕ, List, Contains, Option, None, Some, option_map, inl, inr, refl, sym, ap, slice_get, ◌<◌, ◌≤◌, [], length, append-nil, arith, zero, suc, ◌+◌, ◌⊎◌, ◌∷◌, ◌++◌, drop, append_assoc, length-append}
+use Rattle.std.proofs.Common.{◌≡◌, ◌≢◌, ◌∙◌, ℕ, List, Contains, Option, None, Some, option_map, inl, inr, refl, sym, ap, slice_get, ◌<◌, ◌≤◌, [], length, append-nil, arith, zero, suc, ◌+◌, ◌⊎◌, ◌∷◌, ◌++◌, drop, append_assoc, length-append, nat_cmp}
 use Rattle.std.specs.FinMap.{get, FinMap}
 use Rattle.pcode_machine.specs.Runs.{IsOutput, out, AreComparable, IsPrefix}
 use Rattle.paxos_msg.specs.declared.value.Value.{Value}
@@ -20,7 +20,6 @@ use Rattle.group_world.specs.Sound.{IsSound, IsLearnedChosen}
 use Rattle.group_world.proofs.OrderLists.{here_place, left_place}
 use Rattle.group_world.proofs.WorldAsGroup.{running}
 use Rattle.std.proofs.lemmas.Option.{slice_get_within, slice_get-get_or}
-use Rattle.std.specs.Ordering.{nat_cmp}
 use Rattle.pcode_file.specs.Parts.{Parts}
 use Rattle.paxos_learner.specs.Input.{front_values, input_of, values_below}
 use Rattle.paxos_learner.specs.Learner.{front_of}
@@ -67,13 +66,9 @@ pub record IsOffer (console all : List ℕ) (k b : ℕ) : Type 0 where
   pub byte : slice_get all k ≡ Some b
 
 module _ {console all : List ℕ} {k b : ℕ} (h : IsOffer console all k b) where
-  -- it never comes too early
-  no_gap : offer_answer console k ≢ Gap
-  no_gap gap = grind (arith, nat_tests, h.shown)
-
-  -- a byte that comes again is there
-  repeat_is_same : offer_answer console k ≡ Repeat → slice_get console k ≡ Some b
-  repeat_is_same again = grind (arith, nat_tests, h.shown, h.compare, h.byte, slice_get-get_or console k 0, left_place)
+  -- it never comes too early, and a byte that comes again is there
+  no_gap : (offer_answer console k ≢ Gap) × (offer_answer console k ≡ Repeat → slice_get console k ≡ Some b)
+  no_gap = grind (arith, nat_tests, h.shown, h.compare, h.byte, slice_get-get_or console k 0, left_place)
 
   -- the console shows the byte after the offer
   pub shown_then : k + 1 ≤ length (offered console k b)
@@ -147,30 +142,24 @@ pub record ChoiceLaws : Type 0 where
   pub free : (size s : ℕ) (sent : Sent) (records : ℕ → Record) (v : Value) → Grew size sent records → IsChosen size sent s v → IsFree sent v
 
 -- a node that its group sees as up
-pub record IsSeenUp (w : World) (i : ℕ) (u : Up) : Type 0 where
-  pub member : Member
-  pub running : Running
-  pub is_up : IsUp w i member running
-  pub seen : up_of running ≡ u
-
-node_up : (o : Option Running) (u : Up) → option_map up_of o ≡ Some u → (q : Running) × (o ≡ Some q) × (up_of q ≡ u)
-node_up None u e = absurd cc
-node_up (Some q) u e = (q, refl, cc)
-
-seen_up : (w : World) (i : ℕ) (u : Up) → ((world_state w).seats i).up ≡ Some u → IsSeenUp w i u
+seen_up : (w : World) (i : ℕ) (u : Up) → ((world_state w).seats i).up ≡ Some u
+    → (m : Member) × (q : Running) × IsUp w i m q × (up_of q ≡ u)
 seen_up w i u e = by _ refl e where
-  by : (o : Option Member) → member_at w.members i ≡ o → (seat_of_member o).up ≡ Some u → IsSeenUp w i u
+  by_node : (o : Option Running) → option_map up_of o ≡ Some u → (q : Running) × (o ≡ Some q) × (up_of q ≡ u)
+  by_node None e = absurd cc
+  by_node (Some q) e = (q, refl, cc)
+
+  by : (o : Option Member) → member_at w.members i ≡ o → (seat_of_member o).up ≡ Some u
+      → (m : Member) × (q : Running) × IsUp w i m q × (up_of q ≡ u)
   by None there e = absurd cc
-  by (Some m) there e =
-      let (q, up, seen) = node_up m.node u e in
-      record { member = m; running = q; is_up = record { there = there; up = up }; seen = seen }
+  by (Some m) there e = let (q, up, seen) = by_node m.node e in (m, q, record { there = there; up = up }, seen)
 
 module _ (laws : ChoiceLaws) (w : World) (h : IsSound w) where
   -- what is learned is chosen
   learned_is_chosen : (i s : ℕ) (v : Value) → HasLearned (world_state w) i s v → IsChosen w.group.size (world_state w).sent s v
   learned_is_chosen i s v has =
-      let seen = seen_up w i has.node has.up in
-      (running h seen.is_up).learned.chosen s v (ap (λ (u : Up). get u.learned s) seen.seen ∙ has.learned)
+      let (m, q, up, seen) = seen_up w i has.node has.up in
+      (running h up).learned.chosen s v (ap (λ (u : Up). get u.learned s) seen ∙ has.learned)
 
   pub typed_of : (v : Value) → IsFree (world_state w).sent v → (k : Key) → Contains (keys_of v) k → Contains (world_state w).typed k
   typed_of v (inl noop) k among = absurd (none_in k (rw noop at among))
@@ -200,16 +189,15 @@ module _ (laws : PlayLaws) (w : World) (h : IsSound w) where
   pub has_no_gap : HasNoGap (world_state w)
   unfolding out
   has_no_gap i byte node up e =
-      let seen = seen_up w i node up in
-      let offer = offer_fits laws h seen.is_up byte (rw (← seen.seen) at e) in
-      rw (← seen.seen, seen.is_up.there) (no_gap offer, repeat_is_same offer)
+      let (m, q, is_up, seen) = seen_up w i node up in
+      let offer = offer_fits laws h is_up byte (rw (← seen) at e) in
+      rw (← seen, is_up.there) (no_gap offer)
 
   -- what was released is on the console
   pub consoles_show_released : ConsolesShowReleased (world_state w)
   unfolding out
   consoles_show_released i node up =
-      let seen = seen_up w i node up in
-      let q = seen.running in
-      let sound = running h seen.is_up in
-      let alike = console_compares laws h seen.is_up in
-      rw (← seen.seen, seen.is_up.there) (sound.shown, grind (arith, nat_tests, take-append-le, sound.shown, sound.replay.released))
+      let (m, q, is_up, seen) = seen_up w i node up in
+      let sound = running h is_up in
+      let alike = console_compares laws h is_up in
+      rw (← seen, is_up.there) (sound.shown, grind (arith, nat_tests, take-append-le, sound.shown, sound.replay.released))

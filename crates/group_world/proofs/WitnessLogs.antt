@@ -2,14 +2,12 @@
 -- `a_written_log`; the events of the witness lead to a world in which the key is learned and shown,
 -- for `keys_may_show`; and two consoles show a byte, for `consoles_may_show`. First, what each node
 -- of the first log knows after each of its calls.
-use Rattle.std.proofs.Common.{◌≡◌, ℕ, length, List, [], ◌∷◌, map, replicate, slice_set, Some, refl, arith, ◌++◌}
-use Rattle.std.specs.FinMap.{FinMap, empty, get-empty, insert, remove}
-use Rattle.std.specs.Ordering.{nat_cmp}
+use Rattle.std.proofs.Common.{ℕ, List, [], ◌∷◌, replicate, slice_set, Some, refl, arith, ◌++◌}
+use Rattle.std.specs.FinMap.{empty, get-empty, insert, remove}
 use Rattle.paxos_msg.specs.declared.message.Body.TheVariants.{Accept, Accepted, Ask, Prepare, Promise, Submit}
 use Rattle.paxos_msg.specs.declared.record.Change.TheVariants as change
 use Rattle.paxos_msg.specs.declared.value.Value.{Value}
 use Rattle.paxos_msg.specs.Batches.{Record}
-use Rattle.paxos_msg.specs.Fits.{IsGroup}
 use Rattle.paxos_acceptor.specs.declared.me.Me.{Me}
 use Rattle.paxos_proposer.specs.Proposer.{Proposer, new_proposer, proposing}
 use Rattle.paxos_learner.specs.Entered.{keys_with}
@@ -18,36 +16,23 @@ use Rattle.paxos_learner.proofs.OnePlace.{get_here}
 use Rattle.group_protocol.specs.Known.{Known, Response}
 use Rattle.group_protocol.specs.Packets.{to_all, to_one}
 use Rattle.group_protocol.specs.Pump.{pump}
-use Rattle.group_protocol.specs.States.{IsSize}
-use Rattle.group_world.specs.Event.{LeadsBy, kept_event}
-use Rattle.group_world.specs.Group.{new_world, world_state, World}
-use Rattle.group_world.specs.Headline.{HasLearned}
-use Rattle.group_world.specs.KeyLog.{ballot, key_after, key_events, key_log, typed_letter, letter_value, node_1, node_2, node_3, promised_record, voted_record}
-use Rattle.group_world.specs.Member.{Member}
-use Rattle.group_world.specs.Processes.{AreEventsOf, IsLog}
-use Rattle.group_world.specs.Witness.{echoes, letter, letter_batch, one, shown_events, letter_program}
+use Rattle.group_world.specs.Event.{kept_event}
+use Rattle.group_world.specs.Group.{new_world}
+use Rattle.group_world.specs.KeyLog.{ballot, key_events, letter_value, node_1, node_2, node_3, promised_record, voted_record}
+use Rattle.group_world.specs.Witness.{echoes, letter_batch, one, shown_events, letter_program}
 use Rattle.group_world.specs.WrittenLogs.{started_times, three_nodes}
 use Rattle.group_world.proofs.ChainedSteps.{own_keys}
 use Rattle.group_world.proofs.SmallPrograms.{StepsLaw, echoes_first, writes_letter}
-use Rattle.group_world.proofs.WrittenVotes.{has_learned}
 use Rattle.group_world.proofs.OrderPossible.{me}
 use Rattle.group_world.proofs.WorldAsGroup.{ReadLaw, stopped}
-use Rattle.group_world.proofs.WrittenLogs.{◌▸◌, AreNumbered, Ran, Said, campaigns, hears, leads_to, numbered, presses, releases, runs, starts, stop, ticks, crashes, fails, asking, campaigns_so, fresh, prepares, promised, unsaved}
+use Rattle.group_world.proofs.WrittenLogs.{◌▸◌, AreNumbered, Ran, Said, campaigns, hears, numbered, presses, releases, runs, starts, stop, ticks, crashes, fails, asking, campaigns_so, fresh, prepares, promised, unsaved}
 use Rattle.group_protocol.proofs.Elements.{entries_none, entries_one}
 use Rattle.group_world.specs.declared.event.Done.TheVariants.{Fell}
 use Rattle.group_world.specs.declared.event.Outcome.TheVariants.{FailedOld}
-use Rattle.pcode_file.specs.Parts.{Parts}
-use Rattle.paxos_msg.specs.declared.message.Group.{Group}
 use Rattle.group_world.specs.declared.event.Act.TheVariants.{Release, Run, Start}
 use Rattle.group_world.specs.declared.event.Event.{Event}
 
 -- ---- the nodes
-
-abbrev no_values : FinMap nat_cmp Value
-no_values = empty
-
-abbrev no_tallies : FinMap nat_cmp Tally
-no_tallies = empty
 
 -- a node that has started, and one that has promised
 abbrev begun : Me → Known
@@ -81,11 +66,11 @@ abbrev tally : Tally
 tally = begun_tally 2 ballot letter_value
 
 abbrev counts : Known
-counts = record voter { learner = record { size = 3; learned = no_values; tallies = insert no_tallies 0 tally } }
+counts = record voter { learner = record { size = 3; learned = empty; tallies = insert empty 0 tally } }
 
 abbrev knows : Known
 knows = record voter {
-  learner = record { size = 3; learned = insert no_values 0 letter_value; tallies = remove (insert no_tallies 0 tally) 0 };
+  learner = record { size = 3; learned = insert empty 0 letter_value; tallies = remove (insert empty 0 tally) 0 };
 }
 
 -- ---- their calls
@@ -117,10 +102,10 @@ said =
 
 module _ (steps : StepsLaw) (read : ReadLaw) where
   -- the message with a number
-  number : AreNumbered three_nodes said
+  pub number : AreNumbered three_nodes said
   number = numbered read three_nodes (omega arith) said (grind (arith, own_keys))
 
-  abbrev run : Ran (new_world echoes three_nodes) key_events
+  abbrev pub run : Ran (new_world echoes three_nodes) key_events
   unfolding pump
   run =
       starts 1 0 refl refl
@@ -146,16 +131,6 @@ module _ (steps : StepsLaw) (read : ReadLaw) where
       ▸ releases 3 knows (echoes_first 2 1) refl
       ▸ stop
 
-  pub a_key_log : (now : List Member) × IsLog (new_world echoes three_nodes) key_log now
-      × AreEventsOf three_nodes [] key_log key_events
-      × LeadsBy (new_world echoes three_nodes) key_events (key_after now)
-      × HasLearned (world_state (key_after now)) 3 0 letter_value
-      × (map (λ m. m.kept) now ≡ promised_record ∷ voted_record ∷ voted_record ∷ [])
-      × (map (λ m. m.console) now ≡ [] ∷ [] ∷ (65 ∷ []) ∷ [])
-      × ((world_state (key_after now)).typed ≡ typed_letter ∷ []) × (length (key_after now).sent ≡ 8)
-  unfolding pump
-  a_key_log = (run.now, run.is_log, run.are_events, leads_to run, has_learned _ refl refl, refl, refl, refl, refl)
-
 -- ---- one node alone
 
 abbrev voted : Record
@@ -179,7 +154,7 @@ voting_alone = record offering_alone { kept = voted }
 
 abbrev knowing : Known
 knowing = record voting_alone {
-  learner = record { size = 1; learned = insert no_values 0 letter_batch; tallies = remove no_tallies 0 };
+  learner = record { size = 1; learned = insert empty 0 letter_batch; tallies = remove empty 0 };
   waiting = [];
   first = 2;
 }
@@ -195,10 +170,10 @@ said_alone =
 
 module _ (steps : StepsLaw) (read : ReadLaw) where
   -- the message with a number
-  number_alone : AreNumbered one said_alone
+  pub number_alone : AreNumbered one said_alone
   number_alone = numbered read one (omega arith) said_alone (grind (arith, own_keys))
 
-  abbrev run_alone : Ran (new_world echoes one) shown_events
+  abbrev pub run_alone : Ran (new_world echoes one) shown_events
   unfolding pump
   run_alone =
       fails 1 0 FailedOld (stopped (started_times 0)) refl
@@ -222,20 +197,14 @@ module _ (steps : StepsLaw) (read : ReadLaw) where
       ▸ releases 1 knowing (echoes_first 1 2) refl
       ▸ stop
 
-  pub may_show : (w : World) × LeadsBy (new_world echoes one) shown_events w
-      × HasLearned (world_state w) 1 0 letter_batch × ((world_state w).typed ≡ letter ∷ [])
-      × (((world_state w).seats 1).console ≡ 65 ∷ [])
-  unfolding pump
-  may_show = (_, leads_to run_alone, has_learned _ refl refl, refl, refl)
-
 -- ---- two consoles
 
 -- the events of one node: it starts, runs and releases a byte
-abbrev shows : ℕ → List Event
+abbrev pub shows : ℕ → List Event
 shows i = kept_event (Start i) ∷ kept_event (Run i 10) ∷ kept_event (Release i) ∷ []
 
 -- two nodes of three do so
-abbrev both_show : StepsLaw → Ran (new_world letter_program three_nodes) (shows 1 ++ shows 2)
+abbrev pub both_show : StepsLaw → Ran (new_world letter_program three_nodes) (shows 1 ++ shows 2)
 both_show steps =
     starts 1 0 refl refl
     ▸ runs 1 (begun node_1) (writes_letter _) steps refl
@@ -244,17 +213,3 @@ both_show steps =
     ▸ runs 2 (begun node_2) (writes_letter _) steps refl
     ▸ releases 2 (begun node_2) (writes_letter _) refl
     ▸ stop
-
-pub bytes_are_possible : StepsLaw → (p : Parts) × (group : Group) × (events : List Event) × (w : World) × IsSize group.size × IsGroup group
-    × LeadsBy (new_world p group) events w × (((world_state w).seats 1).console ≡ 65 ∷ []) × (((world_state w).seats 2).console ≡ 65 ∷ [])
-bytes_are_possible steps = (
-  letter_program,
-  three_nodes,
-  shows 1 ++ shows 2,
-  _,
-  record { odd = refl; few = omega arith },
-  omega arith,
-  leads_to (both_show steps),
-  refl,
-  refl,
-)

@@ -2,8 +2,8 @@
 -- heard nothing, what each entry leaves, and that the messages are read again which nodes have sent.
 use Rattle.std.proofs.Common.{◌≡◌, ◌∙◌, ℕ, ◌+◌, ◌<◌, List, [], ◌∷◌, map, slice_get, take, None, Some, refl, ap, arith}
 use Rattle.std.proofs.lemmas.List.Elements.{All-from_recursion, All-take, recursion_from_All}
-use Rattle.std.specs.List.{AllByRecursion}
-use Rattle.std.specs.List.{cons_option}
+use Rattle.std.specs.List.{AllByRecursion, cons_option}
+use Rattle.std.proofs.lemmas.Bool.Decides.{nat_tests}
 use Rattle.pcode_file.specs.Parts.{Parts}
 use Rattle.paxos_msg.specs.declared.message.Group.{Group}
 use Rattle.paxos_msg.specs.declared.value.Value.{Value}
@@ -26,9 +26,8 @@ use Rattle.group_world.specs.Event.{IsDeedOf, LeadsBy, kept_event, node_of}
 use Rattle.group_world.specs.Group.{World, me_of, member_at, messages_in}
 use Rattle.group_node.specs.NodeCalls.{Makes, call_of_campaign, call_of_press, call_of_start, NodeCall}
 use Rattle.group_world.specs.Member.{Member, member_after_call, member_after_release, RunsMember}
-use Rattle.group_world.specs.Processes.{after_log, AreEventsOf, DoesEntry, Entry, IsLog}
-use Rattle.group_world.specs.WrittenLogs.{entry_with, hear_entry, node_in, press_entry, quiet_entry, start_after, started_times, first_ballot}
-use Rattle.group_world.proofs.CallLeaves.{kept_call}
+use Rattle.group_world.specs.Processes.{after_log, AreEventsOf, DoesEntry, Entry, IsLog, quiet_entry}
+use Rattle.group_world.specs.WrittenLogs.{entry_with, hear_entry, node_in, press_entry, start_after, started_times, first_ballot}
 use Rattle.group_world.proofs.SmallPrograms.{StepsLaw, WritesLetter, replays, runs as runs_on, ten_of, waits}
 use Rattle.group_world.proofs.HoldsAfterEvents.{heard_by}
 use Rattle.group_world.proofs.ProcessEvents.{events_lead, log_before, moved, no_log}
@@ -174,7 +173,7 @@ module _ {w : World} (i : ℕ) where
         → IsDeedOf (messages_in w.group w.sent) a d → node_of a ≡ i
         → Enters w (record (entry_with (me_of w i) d made.sends) { typed = typed }) (kept_event a) (member_after_call made console progress)
     calls d a call made typed e does =
-        acts d a made.sends typed _ (Applied, does _ (kept_call (me_of w i) (up n progress console) progress call made typed e))
+        acts d a made.sends typed _ (Applied, does _ (grind (arith, nat_tests)))
 
     pub hears : (k sender : ℕ) (body : Body) (made : Response)
         → slice_get (messages_in w.group w.sent) k ≡ Some (record { sender = sender; body = body }) → on_message n sender body ≡ made
@@ -195,21 +194,21 @@ module _ {w : World} (i : ℕ) where
     presses byte new v low e =
         calls (deed.Press byte) (act.Press i byte) _ (unsaved new []) (v ∷ []) e (λ left ends. (_, refl, low, ends)) refl refl
 
-    pub crashes : Enters w (quiet_entry (me_of w i) deed.Crash) (kept_event (act.Crash i))
+    pub crashes : Enters w (quiet_entry i deed.Crash) (kept_event (act.Crash i))
         (record { kept = n.kept; console = console; node = None })
     crashes = acts deed.Crash (act.Crash i) [] [] _ (Applied, (_, refl, refl)) refl refl
 
   -- its machine runs, and the letter is released
   module _ (n : Known) (h : WritesLetter w.program (input n)) where
     pub runs : StepsLaw → member_at w.members i ≡ Some (up n (no_progress w.program) [])
-        → Enters w (quiet_entry (me_of w i) (deed.Run 10)) (kept_event (act.Run i 10)) (ran w.program n)
+        → Enters w (quiet_entry i (deed.Run 10)) (kept_event (act.Run i 10)) (ran w.program n)
     runs steps there =
         let run : RunsMember _ _ 10 (ran w.program n) =
         record { progress = ten_of w.program; ran = more.More; runs = runs_on h steps; replay = replays h; new_is = refl } in
         acts n there (deed.Run 10) (act.Run i 10) [] [] (ran w.program n) (Applied, (_, refl, run, refl)) refl refl
 
     pub releases : member_at w.members i ≡ Some (ran w.program n)
-        → Enters w (quiet_entry (me_of w i) deed.Release) (kept_event (act.Release i)) (shown w.program n)
+        → Enters w (quiet_entry i deed.Release) (kept_event (act.Release i)) (shown w.program n)
     releases there =
         acts n there deed.Release (act.Release i) [] [] (shown w.program n) (Applied, (_, refl, rw (waits h) refl)) refl refl
 

@@ -1,15 +1,13 @@
 -- What messages that are written down by hand choose and what they do not, by tests of the
 -- messages; and values and numbers that are written down with their places.
 use Rattle.std.proofs.lemmas.Bool.Decides.{nat_tests}
-use Rattle.std.proofs.lemmas.Bool.{eq-eqb}
 use Rattle.std.proofs.lemmas.Option.{same_Some}
 use Rattle.std.proofs.lemmas.Map.Views.{Contains-from_any}
 use Rattle.std.proofs.lemmas.List.Elements.{All-contains, All-contains_itself, All-drop, All-take}
 use Rattle.std.proofs.lemmas.List.Folds.{list_any_at}
 use Rattle.std.proofs.lemmas.List.FromFn.{length-range_with_len}
-use Rattle.std.proofs.Common.{All, Contains, IsTrue, ◌≡◌, ◌≢◌, ◌∙◌, ◌==◌, ◌≤◌, ℕ, zero, suc, ◌+◌, Bool, false, List, [], ◌∷◌, map, take, drop, length, slice_get, Some, sym, ap, subst, arith, refl}
+use Rattle.std.proofs.Common.{All, Contains, IsTrue, ◌≡◌, ◌≢◌, ◌∙◌, ◌==◌, ◌≤◌, ℕ, zero, suc, ◌+◌, Bool, false, List, [], ◌∷◌, map, take, drop, length, slice_get, Some, sym, ap, subst, arith, refl, eq-eqb, nat_cmp}
 use Rattle.std.specs.FinMap.{FinMap, insert}
-use Rattle.std.specs.Ordering.{nat_cmp}
 use Rattle.std.specs.List.{AllByRecursion as EachOf, range_with_len, filter}
 use Rattle.paxos_msg.specs.declared.ballot.Ballot.{Ballot}
 use Rattle.paxos_msg.specs.declared.value.Value.{Value}

@@ -18,10 +18,10 @@ use Rattle.group_node.specs.States.{input}
 use Rattle.group_protocol.specs.Packets.{to_all}
 use Rattle.group_world.specs.Group.{World, me_of, member_at, messages_in, new_world}
 use Rattle.group_world.specs.Member.{IsMemberUp, Member, RunsMember}
-use Rattle.group_world.specs.Processes.{AreEventsOf, DoesEntry, Entry, IsLog}
+use Rattle.group_world.specs.Processes.{AreEventsOf, DoesEntry, Entry, IsLog, quiet_entry}
 use Rattle.group_world.specs.Timed.{AllHearEarlier}
-use Rattle.group_world.specs.WrittenLogs.{IsNoLog, IsSomeLog, first_ballot, five_nodes, nine_nodes, node_in, quiet_entry, start_after, started_times, three_nodes}
-use Rattle.group_world.specs.WrongLogs.{IsOnlyOfUp, answers, campaigning, asks_all, crashes, deliver_event, failed_and_starts_over, heard_at, hears_ask_from, idle_sends, idle_types, nodes_down, only_start, press_event, press_types, presses, releasing, run_sends, starts_again_over, starts_twice, tick_sends, ticks, two_start}
+use Rattle.group_world.specs.WrittenLogs.{IsNoLog, IsSomeLog, first_ballot, five_nodes, nine_nodes, node_in, start_after, started_times, three_nodes}
+use Rattle.group_world.specs.WrongLogs.{IsOnlyOfUp, answers, campaigning, asks_all, crashes, deliver_event, failed_and_starts_over, heard_at, hears_ask_from, idle_sends, idle_types, nodes_down, only_start, press_event, press_types, presses, releasing, run_sends, runs_no_step, starts_again_over, starts_twice, tick_sends, ticks, two_start}
 use Rattle.group_world.proofs.ProcessEvents.{log_before, log_first, moved, no_log}
 use Rattle.group_world.proofs.WorldAsGroup.{ReadLaw, changed_here, stopped}
 use Rattle.group_world.proofs.WrittenLogs.{◌▸◌, acts, campaigns, campaigns_so, crashes as falls, fails, fresh, hears, made, presses as takes, reads, starts, stop, tells_so, ticks as sends, ticks_so, up}
@@ -63,11 +63,11 @@ module _ (group : Group) (e : Entry) (there : (p : Parts) → member_at (new_wor
   only_of_up some =
       (some, λ p now. not_when_down p (new_world p group) now (stopped (started_times 0)) refl refl (there p) refl, has_crashed)
     where
-      has_crashed : IsNoLog group (start_after (node_in group e.node) 0 ∷ quiet_entry (node_in group e.node) Crash ∷ e ∷ [])
+      has_crashed : IsNoLog group (start_after (node_in group e.node) 0 ∷ quiet_entry e.node Crash ∷ e ∷ [])
       has_crashed p now h =
           let w : World = new_world p group in
           let u : Member = first_up p (node_in group e.node) in
-          let crash : Entry = quiet_entry (node_in group e.node) Crash in
+          let crash : Entry = quiet_entry e.node Crash in
           let (down, does, rest) = second group crash h (there p) in
           let down_there = changed_here (started w e.node).members e.node u down (changed_here w.members e.node _ u (there p)) in
           not_when_down p (moved (started w e.node) crash down) now down refl refl down_there
@@ -223,6 +223,10 @@ runs_on begins p =
       new_is = refl;
     } in
     made (starts 5 0 refl refl ▸ acts 5 n refl (Run 0) (act.Run 5 0) [] [] _ (Applied, (_, refl, run, refl)) refl refl ▸ stop)
+
+pub runs_only_up : ((p : Parts) (x : List ℕ) → IsReplay x (no_progress p)) → IsOnlyOfUp five_nodes (node_in five_nodes 5) runs_no_step
+runs_only_up begins =
+    only_of_up five_nodes runs_no_step (λ p. refl) (λ p m new does. (does.1.0, does.1.1)) (runs_on begins)
 
 -- a tick sends one datagram
 pub sends_some : IsNoLog nine_nodes (tick_sends [])

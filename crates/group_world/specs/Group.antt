@@ -21,7 +21,6 @@ use Rattle.group_world.specs.Member.{Member}
 -- What was sent are datagrams, and each typed key is a batch of one; the oldest are first.
 -- Source: Simple 2.1.
 -- Allows: a node that is down.
--- Forbids: a datagram that is forgotten.
 pub record World : Type 0 where
   pub program : Parts
   pub group : Group

@@ -36,8 +36,9 @@ pub record IsPrepared (size : ℕ) (sent : Sent) (node start serial : ℕ) : Typ
   pub lacks : ¬ HasSerial (keys_in_order below) node start serial
 
 -- A value whose first serial is 1, or is prepared.
--- Allows: a batch that is submitted again.
--- Forbids: a batch whose first key was read before.
+-- Allows: a batch that is submitted again, also once its keys are read.
+-- Forbids: a batch whose first serial is above 1, if no chosen values have the key before it and
+-- lack that key.
 abbrev pub IsDue : ℕ → Sent → Value → Type 0
 IsDue size sent Noop = Unit {0}
 IsDue size sent (Keys node start first bytes) = (first ≡ 1) ⊎ IsPrepared size sent node start first

@@ -14,6 +14,7 @@ use Rattle.group_node.specs.World.{Up, WorldState}
 use Rattle.group_world.specs.declared.event.Done.{Done}
 use Rattle.group_world.specs.declared.event.Event.{Event}
 use Rattle.group_world.specs.declared.event.Outcome.{Outcome}
+use Rattle.group_world.specs.declared.event.Outcome.TheVariants.{Kept}
 use Rattle.group_world.specs.Deeds.{DoesDeed, Left}
 use Rattle.group_world.specs.Event.{HearsOf, IsDeedOf, LeadsBy, node_of, plan_of}
 use Rattle.group_world.specs.Group.{World, me_of, member_at, messages_in, new_world, world_state}
@@ -32,6 +33,10 @@ pub record Entry : Type 0 where
   pub save : Outcome
   pub sent : List Datagram
   pub typed : List Value
+
+-- An entry of a node at which nothing is sent or typed. Its save, if it makes one, is kept.
+abbrev pub quiet_entry : ℕ → Deed → Entry
+quiet_entry node deed = record { node = node; deed = deed; save = Kept; sent = []; typed = [] }
 
 -- What an entry leaves that was answered so, with the node after it.
 abbrev pub left_by : Entry → Done → Member → Left
@@ -54,7 +59,7 @@ IsHistory p me m (e ∷ es) last =
 abbrev pub entries_of : ℕ → List Entry → List Entry
 entries_of i log = filter (λ e. e.node == i) log
 
--- What was sent, and what was typed, in order.
+-- The datagrams that were sent in these entries, in order.
 abbrev pub sent_in : List Entry → List Datagram
 sent_in log = flat_map (λ e. e.sent) log
 

@@ -10,7 +10,7 @@ use Rattle.group_world.specs.declared.event.Outcome.{Outcome}
 use Rattle.group_world.specs.declared.event.Outcome.TheVariants.{Kept, FailedOld, FailedNew}
 use Rattle.group_world.specs.declared.event.Event.{Event}
 use Rattle.group_world.specs.declared.script.Line.{Line}
-use Rattle.group_world.specs.declared.script.Line.TheVariants.{Act as Happens, Settle, Show}
+use Rattle.group_world.specs.declared.script.Line.TheVariants as says
 
 -- The first word of a text, up to its first space.
 abbrev pub first_word : List ℕ → List ℕ
@@ -90,9 +90,9 @@ event_of_words word (Some words) = event_of_one word (first_word words) (words_a
 -- What a line other than the first says.
 abbrev pub line_of : List ℕ → Option Line
 line_of line =
-    if bytes_eq line (codes "settle") then Some Settle else (
-    if bytes_eq line (codes "show") then Some Show
-    else option_map Happens (event_of_words (first_word line) (words_after line)))
+    if bytes_eq line (codes "settle") then Some says.Settle else (
+    if bytes_eq line (codes "show") then Some says.Show
+    else option_map says.Event (event_of_words (first_word line) (words_after line)))
 
 -- Lines with the byte `b` put in front of the first.
 abbrev pub begins_with : ℕ → List (List ℕ) → List (List ℕ)

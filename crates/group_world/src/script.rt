@@ -13,7 +13,7 @@ use thiserror::Error;
 #[derive(Clone, Copy, Debug, PartialEq, Eq)]
 pub enum Line {
     /// An event of the group.
-    Act(Event),
+    Event(Event),
     /// Delivers all messages that no earlier `settle` has delivered, with those that they cause;
     /// then runs and releases all nodes that are up.
     Settle,

@@ -2,7 +2,7 @@
 ghost use Rattle.std.specs.Prelude.{IfOk, IfErr};
 ghost use Rattle.pcode_file.specs.InFile.{InFile};
 ghost use Rattle.pcode_ops.specs.Reach.{IsLoadable};
-ghost use Rattle.machine_run.specs.Files.{IsNoProgram};
+ghost use Rattle.machine_run.specs.Files.{IsLoadRefusal};
 
 use crate::refusal::MachineRefusal;
 use pcode_file::CodeFile;
@@ -14,7 +14,7 @@ use std::alloc::Global;
 /// reached offset and its first fault.
 pub fn load(alloc: Global, bytes: &[u8]) -> Result<Program, MachineRefusal>
     ensures ok { IfOk result (λ program. InFile bytes.now program × IsLoadable program) }
-    ensures err { IfErr result (IsNoProgram bytes.now) }
+    ensures err { IfErr result (IsLoadRefusal bytes.now) }
 {
     let file = CodeFile::read(alloc, bytes).map_err(MachineRefusal::CodeFile)?;
     match Program::check(alloc, file) {

@@ -1,7 +1,7 @@
 -- A node whose output is shown on a console.
 use Rattle.std.specs.Prelude.{◌≡◌, ℕ, ◌+◌, ◌<◌, List, length, Result, Ok, Err}
-use Rattle.group_node.specs.Output.{unreleased_of}
-use Rattle.group_node.specs.States.{NodeState, input}
+use Rattle.group_node.specs.NodeCalls.{running, unreleased_by}
+use Rattle.group_node.specs.States.{NodeState}
 use Rattle.group_wire.specs.Turns.{released_by}
 use Rattle.group_udp.specs.declared.fault.GroupFault.{GroupFault}
 use Rattle.group_udp.specs.Refusals.{no_memory}
@@ -9,10 +9,6 @@ use Rattle.group_udp.specs.Refusals.{no_memory}
 -- A console that shows what the node has released.
 abbrev pub ShowsReleased : {S : Type 0} → List ℕ → NodeState S → Type 0
 ShowsReleased bytes n = bytes ≡ released_by n
-
--- The bytes of output that wait.
-abbrev pub waiting_output : {S : Type 0} → NodeState S → List ℕ
-waiting_output n = unreleased_of (input n.protocol.known) n.progress
 
 -- A release of the first `count` bytes that wait, and of no others.
 pub record ReleasesFirst {S : Type 0} (count : ℕ) (old new : NodeState S) : Type 0 where
@@ -23,7 +19,7 @@ pub record ReleasesFirst {S : Type 0} (count : ℕ) (old new : NodeState S) : Ty
 -- A release of all output that waits, or of the first of it, as far as there is memory to show it.
 abbrev pub HasShownAll : {S : Type 0} → NodeState S → NodeState S → Result (Unit {0}) GroupFault
     → Type 0
-HasShownAll old new (Ok x) = ReleasesFirst (length (waiting_output old)) old new
+HasShownAll old new (Ok x) = ReleasesFirst (length (unreleased_by (running old))) old new
 HasShownAll old new (Err e) =
-    (count : ℕ) × (count < length (waiting_output old)) × ReleasesFirst count old new
+    (count : ℕ) × (count < length (unreleased_by (running old))) × ReleasesFirst count old new
     × (e ≡ no_memory)

@@ -1,5 +1,6 @@
 //! A node of a group in one process, whose output is shown on its console.
 ghost use Rattle.std.specs.Prelude.{◌≡◌, ◌<◌, ◌⊎◌, ◌++◌, ◌∷◌, [], length, IfErr, None, OnErr, OnOk, Option};
+ghost use Rattle.group_node.specs.NodeCalls.{running, unreleased_by};
 ghost use Rattle.group_node.specs.States.{input};
 ghost use Rattle.group_node.specs.Deeds.{Run};
 ghost use Rattle.group_wire.specs.declared.limits.TheConstants.{TURN_STEPS};
@@ -8,14 +9,14 @@ ghost use Rattle.group_wire.specs.Traffic.{Traffic};
 ghost use Rattle.group_wire.specs.Turns.{released_of};
 ghost use Rattle.group_udp.specs.Refusals.{IsCampaignRefusal, IsRunRefusal, no_memory};
 ghost use Rattle.net_run.specs.Refusals.{IsPressRefusal, IsShownTurnRefusal};
-ghost use Rattle.net_run.specs.Shown.{HasShownAll, ReleasesFirst, ShowsReleased, waiting_output};
+ghost use Rattle.net_run.specs.Shown.{HasShownAll, ReleasesFirst, ShowsReleased};
 
 use group_log::end_to_note;
 use group_node::{Config, Console, NodeFault, Offer};
 use group_udp::{GroupFault, RestingWire, UdpWire};
 use group_wire::Host;
 use group_wire::laws::deeds_go_on;
-use machine_run::RunIo;
+use machine_run::IoFault;
 use paxos_acceptor::{MemoryStore, Store};
 use paxos_msg::Record;
 use pcode_machine::End;
@@ -39,7 +40,7 @@ pub struct ShownNode<'a, H: Files> {
 /// Puts the first byte of the output that waits on the console, which has shown those before it.
 /// Fails if memory runs out; then the byte waits still.
 fn show_next<S: Store>(host: &mut Host<'_, S>, console: &mut Console) -> Result<(), GroupFault>
-    requires waits { 0 < length (waiting_output host.old) }
+    requires waits { 0 < length (unreleased_by (running host.old)) }
     requires shows { ShowsReleased console.old.bytes host.old }
     ensures shows { ShowsReleased console.new.bytes host.new }
     ensures one { OnOk result (ReleasesFirst 1 host.old host.new) }
@@ -49,7 +50,7 @@ fn show_next<S: Store>(host: &mut Host<'_, S>, console: &mut Console) -> Result<
 {
     deeds_go_on::<S>();
     if console.reserve().is_err() {
-        return Err(GroupFault::from(RunIo::Memory));
+        return Err(GroupFault::from(IoFault::Memory));
     }
     let Some((number, byte)) = host.release() else {
         unreachable!()
@@ -66,7 +67,7 @@ fn show_all<S: Store>(host: &mut Host<'_, S>, console: &mut Console) -> Result<(
     requires shows { ShowsReleased console.old.bytes host.old }
     ensures shows { ShowsReleased console.new.bytes host.new }
     ensures appended { OnOk result
-        (console.new.bytes ≡ console.old.bytes ++ waiting_output host.old) }
+        (console.new.bytes ≡ console.old.bytes ++ unreleased_by (running host.old)) }
     ensures shown { HasShownAll host.old host.new result }
     ensures acts { (passed : Option Traffic) → HasActed host.old host.new passed passed [] }
 {
@@ -139,7 +140,7 @@ impl<'a, H: Clock + Files + AllocGlobal> ShownNode<'a, H> {
     pub fn turn(&mut self) -> Result<Option<End>, GroupFault>
         ensures acts { OnOk result
             (HasActed self.old.host self.new.host None None (Run TURN_STEPS ∷ [])) }
-        ensures shown { OnOk result (waiting_output self.new.host ≡ []) }
+        ensures shown { OnOk result (unreleased_by (running self.new.host) ≡ []) }
         ensures others { IfErr result IsShownTurnRefusal }
     {
         deeds_go_on::<MemoryStore>();

@@ -100,7 +100,7 @@ module _ {S : Type 0} (laws : GoOn S) where
       → HasGoneOn [] mid new via to u → HasGoneOn first old new from to (t + u)
   gone_then {to = to} h k =
       let acts = laws.more _ _ _ _ _ _ _ _ h.acts k.acts in
-      grind (arith, append_assoc, gift_both h.gift k.gift to.keys h.given k.given, acts, prompted_both h.prompted k.prompted)
+      grind (arith, append_assoc, gift_both h.gift k.gift to.keyboard h.given k.given, acts, prompted_both h.prompted k.prompted)
 
   -- and then what a refusal ended
   pub ended_then : {first : List Deed} {old mid new : NodeState S} {from via to : Around} {t u : ℕ} {e : GroupFault}
@@ -108,7 +108,7 @@ module _ {S : Type 0} (laws : GoOn S) where
   ended_then {to = to} h k = record {
     gift = h.gift ++ k.gift;
     prompts = h.prompts ++ k.prompts;
-    given = gift_both h.gift k.gift to.keys h.given k.given;
+    given = gift_both h.gift k.gift to.keyboard h.given k.given;
     fails = λ is. rw append_assoc at (laws.fails _ _ _ _ _ _ _ _ h.acts (k.fails is));
     acts = λ is. rw append_assoc at (laws.more _ _ _ _ _ _ _ _ h.acts (k.acts is));
     prompted = prompted_both h.prompted k.prompted;

@@ -12,11 +12,11 @@ use Rattle.group_node.specs.NodeCalls.{running}
 use Rattle.group_wire.specs.Starts.{HasStarted}
 use Rattle.group_udp.specs.declared.fault.GroupFault.{GroupFault}
 use Rattle.node_run.specs.declared.node.NodePlan.{NodePlan}
-use Rattle.node_run.specs.Ends.{RunsOpened, RunsWith, keys_at_first}
+use Rattle.node_run.specs.Ends.{RunsOpened, RunsWith, keyboard_at_first}
 use Rattle.node_run.specs.Going.{Around, HasGone, planned}
 use Rattle.node_run.specs.Output.{AppendsOutput, NoneWaits}
-use Rattle.group_udp.specs.Refusals.{IsCampaignRefusal, IsWrittenCycleRefusal, write_failed}
-use Rattle.node_run.specs.Runs.{RunsNode, WritesReleased}
+use Rattle.group_udp.specs.Refusals.{write_failed}
+use Rattle.node_run.specs.Runs.{IsEarlyEnd, RunsNode, WritesReleased}
 use Rattle.node_run.proofs.Going.{is_store, prompted_if}
 use Rattle.node_run.proofs.Starting.{ran_on, ran_out}
 
@@ -31,7 +31,7 @@ module _ {S : Type 0} (kind : StoreKind S) (me : Me) (program : Parts)
     (starts : HasStarted kind me program store (Ok first)) (replay : IsReplay (input last.protocol.known) last.progress) where
   pub runs_by : (result : Result (Unit {0}) GroupFault) → HasGone (planned plan.campaigns) first last from to plan.turns result
       → AppendsOutput plan.seen first last (IsErrOf result write_failed) before after
-      → OnOk result (NoneWaits last) → IfErr result (λ e. IsWrittenCycleRefusal e ⊎ IsCampaignRefusal e)
+      → OnOk result (NoneWaits last) → IfErr result (IsEarlyEnd plan)
       → RunsNode kind.loads me program store plan from to before after result
   runs_by (Ok x) h writes none others = record {
     last = running last;
@@ -78,6 +78,6 @@ module _ {S : Type 0} (kind : StoreKind S) (me : Me) (program : Parts)
 -- it is typed at the keyboard of the plan
 pub opened : {me : Me} {program : Parts} {plan : NodePlan} (text : List ℕ) {before after : Option (List ℕ)}
     {result : Result (Unit {0}) GroupFault} (keys : Option SocketAddr) → plan.keys ≡ keys
-    → RunsWith me program plan (keys_at_first keys text) before after result → RunsOpened me program plan text before after result
+    → RunsWith me program plan (keyboard_at_first keys text) before after result → RunsOpened me program plan text before after result
 opened {me} {program} {plan} text {before} {after} {result} keys is h =
-    subst (λ k. RunsWith me program plan (keys_at_first k text) before after result) (sym is) h
+    subst (λ k. RunsWith me program plan (keyboard_at_first k text) before after result) (sym is) h

@@ -9,8 +9,8 @@ use Rattle.group_protocol.specs.declared.fault.NodeFault.TheVariants.{Id, Size}
 use Rattle.group_protocol.specs.States.{IsConfig, IsSize}
 use Rattle.machine_run.specs.declared.refusal.MachineRefusal.{MachineRefusal}
 use Rattle.machine_run.specs.declared.refusal.MachineRefusal.TheVariants.{Run}
-use Rattle.machine_run.specs.declared.run.RunIo.{RunIo}
-use Rattle.machine_run.specs.declared.run.RunIo.TheVariants.{Write}
+use Rattle.machine_run.specs.declared.run.IoFault.{IoFault}
+use Rattle.machine_run.specs.declared.run.IoFault.TheVariants.{Write}
 use Rattle.machine_run.specs.Files.{HasReadAll, HasReadFront, IsFileRefusal, IsLoadedProgram}
 use Rattle.group_udp.specs.declared.fault.GroupFault.{GroupFault}
 use Rattle.group_udp.specs.declared.fault.GroupFault.TheVariants as group
@@ -45,15 +45,15 @@ RunsWith me program plan left before after result =
 
 -- What the keyboard of a plan has left at first: the text, or what datagrams will bring, which is
 -- unknown.
-abbrev pub keys_at_first : Option SocketAddr → List ℕ → Option Remaining
-keys_at_first None text = Some (record { bytes = text; requests = 0 })
-keys_at_first (Some address) text = None
+abbrev pub keyboard_at_first : Option SocketAddr → List ℕ → Option Remaining
+keyboard_at_first None text = Some (record { bytes = text; requests = 0 })
+keyboard_at_first (Some address) text = None
 
 -- Such a run with the keyboard of the plan.
 abbrev pub RunsOpened : Me → Parts → NodePlan → List ℕ → Option (List ℕ) → Option (List ℕ)
     → Result (Unit {0}) GroupFault → Type 0
 RunsOpened me program plan text before after result =
-    RunsWith me program plan (keys_at_first plan.keys text) before after result
+    RunsWith me program plan (keyboard_at_first plan.keys text) before after result
 
 -- ---- the refusals before it, in their order
 
@@ -76,7 +76,7 @@ IsRefusedNode plan e =
 -- long, or memory ran out. It is not read if typed bytes come as datagrams.
 abbrev pub IsRefusedInput : NodePlan → Option (List ℕ) → Option (List ℕ) → GroupFault → Type 0
 IsRefusedInput plan from to e =
-    (plan.keys ≡ None) × (faults : ℕ) × (fault : RunIo) × (fault ≢ Write)
+    (plan.keys ≡ None) × (faults : ℕ) × (fault : IoFault) × (fault ≢ Write)
     × HasReadFront from to 0 faults fault × (e ≡ group.Machine (Run fault))
 
 -- The input that is typed.

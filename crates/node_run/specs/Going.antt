@@ -18,11 +18,11 @@ use Rattle.node_run.specs.declared.endpoints.Endpoints.{Endpoints}
 -- What is known around a node: what has passed over its wire, and what its keyboard has left.
 pub record Around : Type 0 where
   pub traffic : Option Traffic
-  pub keys : Option Remaining
+  pub keyboard : Option Remaining
 
 -- These two, put together.
 abbrev pub around : Option Traffic → Option Remaining → Around
-around traffic keys = record { traffic = traffic; keys = keys }
+around traffic keyboard = record { traffic = traffic; keyboard = keyboard }
 
 -- What is known around a node by its wire and its keyboard. The two functions tell what has passed
 -- over a wire, and what a keyboard has left.
@@ -50,7 +50,7 @@ pub record HasGoneOn {S : Type 0} (first : List Deed) (old new : NodeState S) (f
     (turns : ℕ) : Type 0 where
   pub gift : List Deed
   pub prompts : List Deed
-  pub given : from.keys ≡ with_gift gift to.keys
+  pub given : from.keyboard ≡ with_gift gift to.keyboard
   pub acts : HasActed old new from.traffic to.traffic (first ++ prompts)
   pub prompted : IsPrompted gift turns ⊥ prompts
 
@@ -59,7 +59,7 @@ pub record HasEnded {S : Type 0} (first : List Deed) (old new : NodeState S) (fr
     (turns : ℕ) (e : GroupFault) : Type 0 where
   pub gift : List Deed
   pub prompts : List Deed
-  pub given : from.keys ≡ with_gift gift to.keys
+  pub given : from.keyboard ≡ with_gift gift to.keyboard
   pub fails : e ≡ group.Node Store → Fails old new from.traffic to.traffic (first ++ prompts)
   pub acts : e ≢ group.Node Store → HasActed old new from.traffic to.traffic (first ++ prompts)
   pub prompted : IsPrompted gift turns (e ≡ group.Node SerialSpent) prompts

@@ -3,22 +3,23 @@ use Rattle.std.specs.Prelude.{◌≡◌, ℕ, ◌+◌, ◌-◌, List, [], ◌++�
 use Rattle.std.specs.Io.KnownBytes.{Appends}
 use Rattle.pcode_file.specs.Parts.{Parts}
 use Rattle.pcode_machine.specs.Runs.{out}
+use Rattle.group_node.specs.NodeCalls.{running, unreleased_by}
 use Rattle.group_node.specs.Output.{Progress, unreleased_of}
-use Rattle.group_node.specs.States.{NodeState, input}
+use Rattle.group_node.specs.States.{NodeState}
 use Rattle.group_wire.specs.Turns.{released_by, released_of}
 
 -- The released bytes with a number from `seen` on.
 -- Allows: no byte, if all were seen.
-abbrev pub shown_of : ℕ → List ℕ → Progress → List ℕ
-shown_of seen x q = drop seen (released_of x q)
+abbrev pub released_from : ℕ → List ℕ → Progress → List ℕ
+released_from seen x q = drop seen (released_of x q)
 
 -- The waiting bytes with a number from `seen` on.
-abbrev pub unseen_of : ℕ → List ℕ → Progress → List ℕ
-unseen_of seen x q = drop (seen - q.released) (unreleased_of x q)
+abbrev pub unreleased_from : ℕ → List ℕ → Progress → List ℕ
+unreleased_from seen x q = drop (seen - q.released) (unreleased_of x q)
 
 -- A node at which no output waits.
 abbrev pub NoneWaits : {S : Type 0} → NodeState S → Type 0
-NoneWaits n = unreleased_of (input n.protocol.known) n.progress ≡ []
+NoneWaits n = unreleased_by (running n) ≡ []
 
 -- The progress of a node once all bytes that wait are released.
 abbrev pub all_released : List ℕ → Progress → Progress

@@ -37,8 +37,8 @@ HasTypedGiven old new from to (Err e) =
 -- ignores it.
 -- Only a save that fails ends the node.
 -- Allows: a campaign that does not begin.
--- Forbids: a node that ends since no ballot or no place is left; a leader with a gap that stays
--- under its ballot.
+-- Forbids: a node that ends since no ballot or no place is left; a leader with a gap that ignores
+-- the request.
 abbrev pub HasCampaignedAsAsked : {S : Type 0} → StoreKind S → NodeState S → NodeState S
     → Option Traffic → Option Traffic → Result Pressed GroupFault → Type 0
 HasCampaignedAsAsked kind old new from to (Ok Bytes) = ⊥
@@ -58,16 +58,16 @@ HasCampaignedAsAsked kind old new from to (Err e) =
 abbrev pub HasPressedKeyboard : {S : Type 0} → StoreKind S → NodeState S → NodeState S
     → Around → Around → Result Pressed GroupFault → Type 0
 HasPressedKeyboard kind old new from to (Ok Bytes) =
-    (typed : List ℕ) × (from.keys ≡ with_gift (map Press typed) to.keys)
+    (typed : List ℕ) × (from.keyboard ≡ with_gift (map Press typed) to.keyboard)
     × HasActed old new from.traffic to.traffic (map Press typed)
 HasPressedKeyboard kind old new from to (Ok Ignored) =
-    (from.keys ≡ with_gift (Campaign ∷ []) to.keys)
+    (from.keyboard ≡ with_gift (Campaign ∷ []) to.keyboard)
     × HasCampaignedAsAsked kind old new from.traffic to.traffic (Ok Ignored)
 HasPressedKeyboard kind old new from to (Ok Campaigned) =
-    (from.keys ≡ with_gift (Campaign ∷ []) to.keys)
+    (from.keyboard ≡ with_gift (Campaign ∷ []) to.keyboard)
     × HasCampaignedAsAsked kind old new from.traffic to.traffic (Ok Campaigned)
 HasPressedKeyboard kind old new from to (Ok (CampaignRefused f)) =
-    (from.keys ≡ with_gift (Campaign ∷ []) to.keys)
+    (from.keyboard ≡ with_gift (Campaign ∷ []) to.keyboard)
     × HasCampaignedAsAsked kind old new from.traffic to.traffic (Ok (CampaignRefused f))
 HasPressedKeyboard kind old new from to (Err e) =
     IsCycleRefusal e × HasEnded [] old new from to 0 e

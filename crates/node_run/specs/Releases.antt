@@ -3,7 +3,7 @@ use Rattle.std.specs.Prelude.{◌≡◌, ℕ, ◌+◌, ◌-◌, ◌≤◌, List,
 use Rattle.std.specs.Io.KnownBytes.{Appends}
 use Rattle.group_node.specs.States.{NodeState, input}
 use Rattle.group_udp.specs.declared.fault.GroupFault.{GroupFault}
-use Rattle.node_run.specs.Output.{ReleasesBytes, all_released, unseen_of}
+use Rattle.node_run.specs.Output.{ReleasesBytes, all_released, unreleased_from}
 use Rattle.group_udp.specs.Refusals.{write_failed}
 
 -- A moment of a node: the node, and what its writer holds, where that is known.
@@ -16,7 +16,7 @@ pub record NodeMoment (S : Type 0) : Type 0 where
 pub record WritesAll {S : Type 0} (seen : ℕ) (old new : NodeMoment S) : Type 0 where
   pub progress : new.node.progress ≡ all_released
       (input old.node.protocol.known) old.node.progress
-  pub appended : Appends old.written new.written (unseen_of seen
+  pub appended : Appends old.written new.written (unreleased_from seen
       (input old.node.protocol.known) old.node.progress)
   pub protocol : new.node.protocol ≡ old.node.protocol
 

@@ -1,6 +1,6 @@
 -- What a whole run of a node does, what passes over its wire, what is typed at it, and what it
 -- writes.
-use Rattle.std.specs.Prelude.{◌≡◌, ◌≤◌, ◌⊎◌, ℕ, List, [], ◌++◌, length, Option, Result, Err, IfErr, IsErr, IsErrOf, OnOk}
+use Rattle.std.specs.Prelude.{◌≡◌, ◌≤◌, ◌⊎◌, ℕ, true, List, [], ◌++◌, length, Option, Result, Err, IfErr, IsErr, IsErrOf, OnOk}
 use Rattle.std.specs.Io.KnownBytes.{Appends}
 use Rattle.paxos_acceptor.specs.declared.me.Me.{Me}
 use Rattle.paxos_acceptor.specs.declared.store.StoreFault.{StoreFault}
@@ -10,16 +10,16 @@ use Rattle.pcode_file.specs.Parts.{Parts}
 use Rattle.group_protocol.specs.declared.fault.NodeFault.TheVariants.{SerialSpent, Store}
 use Rattle.group_protocol.specs.declared.start.StartRefused.{StartRefused}
 use Rattle.group_node.specs.Deeds.{Deed}
-use Rattle.group_node.specs.Output.{IsReplay, unreleased_of}
+use Rattle.group_node.specs.Output.{IsReplay}
 use Rattle.group_node.specs.States.{input}
-use Rattle.group_node.specs.NodeCalls.{Running}
+use Rattle.group_node.specs.NodeCalls.{Running, unreleased_by}
 use Rattle.group_wire.specs.Process.{RunsAsProcess}
 use Rattle.group_wire.specs.Starts.{HasStarted}
 use Rattle.group_udp.specs.declared.fault.GroupFault.{GroupFault}
 use Rattle.group_udp.specs.declared.fault.GroupFault.TheVariants as group
 use Rattle.node_run.specs.declared.node.NodePlan.{NodePlan}
 use Rattle.node_run.specs.Going.{Around, HasReason, planned}
-use Rattle.node_run.specs.Output.{shown_of}
+use Rattle.node_run.specs.Output.{released_from}
 use Rattle.group_udp.specs.Prompts.{IsPrompted, with_gift}
 use Rattle.group_udp.specs.Refusals.{IsCampaignRefusal, IsWrittenCycleRefusal, write_failed}
 
@@ -33,10 +33,15 @@ pub record WritesReleased (seen : ℕ) (last : Running) (fails : Type 0) (from t
   pub replay : IsReplay (input last.known) last.progress
   pub wrote : List ℕ
   pub lost : List ℕ
-  pub whole : shown_of seen (input last.known) last.progress ≡ wrote ++ lost
+  pub whole : released_from seen (input last.known) last.progress ≡ wrote ++ lost
   pub one : fails → length lost ≡ 1
   pub none : ¬ fails → lost ≡ []
   pub appended : Appends from to wrote
+
+-- Why a run of this plan may end early: a cycle is refused, or the campaign that the plan asks for.
+-- Forbids: the refusal of a campaign that nobody asked for.
+abbrev pub IsEarlyEnd : NodePlan → GroupFault → Type 0
+IsEarlyEnd plan e = IsWrittenCycleRefusal e ⊎ ((plan.campaigns ≡ true) × IsCampaignRefusal e)
 
 -- A run of a node that has started, as a process of its group over one load of its store. All that
 -- passes over its wire is what passes in its deeds. It campaigns first if its plan says so. Then it
@@ -55,15 +60,15 @@ pub record RunsNode {S : Type 0} (loads : S → Result Record StoreFault → S �
       (IsErrOf result (group.Node Store))
   pub begun : (first ≡ planned plan.campaigns) ⊎ (IsErr result × (first ≡ []))
   pub gift : List Deed
-  pub given : from.keys ≡ with_gift gift to.keys
+  pub given : from.keyboard ≡ with_gift gift to.keyboard
   pub turns : ℕ
   pub follows : IsPrompted gift turns (IsErrOf result (group.Node SerialSpent)) prompts
   pub few : turns ≤ plan.turns
   pub all : OnOk result (turns ≡ plan.turns)
-  pub ends : IfErr result (λ e. IsWrittenCycleRefusal e ⊎ IsCampaignRefusal e)
+  pub ends : IfErr result (IsEarlyEnd plan)
   pub due : IfErr result (λ e. HasReason e last.known)
   pub writes : WritesReleased plan.seen last (IsErrOf result write_failed) before after
-  pub none_waits : OnOk result (unreleased_of (input last.known) last.progress ≡ [])
+  pub none_waits : OnOk result (unreleased_by last ≡ [])
 
 -- A run of a node over a store, a wire and a keyboard. Its start is refused; then nothing passes,
 -- nothing is typed, and nothing is written. Or it starts, and runs.

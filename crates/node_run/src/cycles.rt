@@ -1,10 +1,11 @@
 //! The cycles of one node: each is a rest, typing, a turn, and the release of all output.
-ghost use Rattle.std.specs.Prelude.{◌≡◌, [], false, ◌⊎◌, IfErr, IsErrOf, OnOk};
+ghost use Rattle.std.specs.Prelude.{◌≡◌, [], false, IfErr, IsErrOf, OnOk};
 ghost use Rattle.pcode_file.specs.Parts.{Parts};
 ghost use Rattle.group_node.specs.Output.{no_progress};
 ghost use Rattle.group_wire.specs.Turns.{SameReleased};
 ghost use Rattle.node_run.specs.Going.{CampaignsIf, HasGone, around_of, planned};
 ghost use Rattle.node_run.specs.Output.{AppendsOutput, NoneWaits, SameProgram};
+ghost use Rattle.node_run.specs.Runs.{IsEarlyEnd};
 ghost use Rattle.group_udp.specs.Refusals.{IsCampaignRefusal, IsCycleRefusal, IsWrittenCycleRefusal, write_failed};
 
 use crate::endpoints::{Endpoints, note_pressed};
@@ -160,8 +161,7 @@ pub fn campaign_and_play<H: Clock, T: RestingWire, K: Keyboard, S: Store, W: Byt
         (W.contents writer.old) (W.contents writer.new) }
     ensures none_waits { (p : Parts) → host.old.progress ≡ no_progress p
         → OnOk result (NoneWaits host.new) }
-    ensures others { IfErr result
-        (λ e. IsWrittenCycleRefusal e ⊎ IsCampaignRefusal e) }
+    ensures others { IfErr result (IsEarlyEnd plan.now) }
 {
     deeds_go_on::<S>();
     campaign_if(host, &mut endpoints.wire, plan.campaigns)?;

@@ -2,7 +2,7 @@
 ghost use Rattle.std.specs.Prelude.{◌⊎◌, ◌++◌, List, length, max, ℕ};
 ghost use Rattle.pcode_machine.specs.Runs.{AreComparable, IsOutput};
 ghost use Rattle.group_node.specs.Output.{IsReplay, Progress};
-ghost use Rattle.node_run.specs.Output.{AreFirst, shown_of};
+ghost use Rattle.node_run.specs.Output.{AreFirst, released_from};
 
 use pcode_machine::laws::{output_only_grows, prefixes_are_ordered};
 
@@ -12,19 +12,19 @@ use pcode_machine::laws::{output_only_grows, prefixes_are_ordered};
 /// other, as with two starts in one group.
 pub fn consoles_go_on()
     ensures first { (x : List ℕ) (q : Progress) → IsReplay x q
-        → AreFirst q.program x q.released (shown_of 0 x q) }
+        → AreFirst q.program x q.released (released_from 0 x q) }
     ensures output { (x : List ℕ) (q : Progress) → IsReplay x q
-        → IsOutput q.program x (shown_of 0 x q) }
+        → IsOutput q.program x (released_from 0 x q) }
     ensures goes_on { (x y console : List ℕ) (q : Progress) → AreComparable x y
         → IsOutput q.program x console → IsReplay y q
         → AreFirst q.program x (max (length console) q.released)
-        (console ++ shown_of (length console) y q)
+        (console ++ released_from (length console) y q)
         ⊎ AreFirst q.program y (max (length console) q.released)
-        (console ++ shown_of (length console) y q) }
+        (console ++ released_from (length console) y q) }
     ensures output_again { (x y console : List ℕ) (q : Progress) → AreComparable x y
         → IsOutput q.program x console → IsReplay y q
-        → IsOutput q.program x (console ++ shown_of (length console) y q)
-        ⊎ IsOutput q.program y (console ++ shown_of (length console) y q) }
+        → IsOutput q.program x (console ++ released_from (length console) y q)
+        ⊎ IsOutput q.program y (console ++ released_from (length console) y q) }
 {
     output_only_grows();
     prefixes_are_ordered();

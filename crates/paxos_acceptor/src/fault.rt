@@ -11,8 +11,9 @@ pub enum AcceptorFault {
     /// Out of memory. Nothing has changed.
     #[error("A1")]
     Memory,
-    /// The store's device failed. The record is as it was, and from now on each call fails with
-    /// `Closed`. If the acceptor was being opened there is none, and the store is given back.
+    /// The store's device failed. The record is as it was, and from now on each `new_start`,
+    /// `prepare` and `accept` fails with `Closed`. If the acceptor was being opened there is none,
+    /// and the store is given back.
     #[error("A2")]
     Store,
     /// The store failed before.

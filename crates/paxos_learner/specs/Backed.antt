@@ -18,14 +18,14 @@ IsTallied sent s t =
 -- Some node has sent a Tell of `v` at place `s`, or a majority has accepted it there under one
 -- ballot.
 -- Source: Simple 2.3.
--- Forbids: A value that only one of three nodes has accepted.
+-- Forbids: A value of which no Tell was sent, and which only one of three nodes has accepted.
 abbrev pub MayLearn : ℕ → Sent → ℕ → Value → Type 0
 MayLearn size sent s v = IsSaid sent (Tell s v) ⊎ IsChosen size sent s v
 
 -- The messages back each tally and each learned value.
 -- Source: Simple 2.3.
 -- Allows: A learner that has heard nothing.
--- Forbids: A value that only one of three nodes has accepted.
+-- Forbids: A value of which no Tell was sent, and which only one of three nodes has accepted.
 pub record IsLearnerBacked (sent : Sent) (l : Learner) : Type 0 where
   pub tallied : (s : ℕ) (t : Tally) → get l.tallies s ≡ Some t → IsTallied sent s t
   pub learned : (s : ℕ) (v : Value) → get l.learned s ≡ Some v → MayLearn l.size sent s v

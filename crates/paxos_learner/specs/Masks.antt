@@ -10,8 +10,7 @@ low_bits zero mask = []
 low_bits (suc k) mask = (mask % 2 == 1) ∷ low_bits k (mask / 2)
 
 -- True for each node, 0 to the greatest, whose bit is set.
--- Allows: Node 3, at bit value 8.
--- Forbids: A word of 1,024 or more.
+-- Allows: Node 3, at bit value 8; a word of 1,024 or more, whose higher bits do not count.
 unfoldable pub nodes_of : ℕ → List Bool
 nodes_of mask = low_bits (MOST_NODES + 1) mask
 

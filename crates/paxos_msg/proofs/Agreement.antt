@@ -1,16 +1,15 @@
 -- The invariant holds of all that grew, and what is chosen stays.
-use Rattle.std.proofs.Common.{◌≡◌, ℕ, inl, inr, [], sym, arith}
+use Rattle.std.proofs.Common.{◌≡◌, ◌⊎◌, ℕ, inl, inr, [], sym, arith}
 use Rattle.std.proofs.lemmas.Bool.Decides.{nat_tests}
 use Rattle.paxos_msg.specs.declared.ballot.Ballot.{Ballot}
 use Rattle.paxos_msg.specs.declared.value.Value.{Value}
-use Rattle.paxos_msg.specs.Ballots.{IsAtMost}
+use Rattle.paxos_msg.specs.Ballots.{IsAtMost, IsBelow}
 use Rattle.paxos_msg.specs.Batches.{Grew, Record, Sent}
 use Rattle.paxos_msg.specs.declared.message.Body.TheVariants.{Accept}
 use Rattle.paxos_msg.specs.Messages.{IsSaid}
 use Rattle.paxos_msg.specs.Records.{empty_record}
 use Rattle.paxos_msg.specs.Chosen.{IsChosenBy}
 use Rattle.paxos_msg.specs.Growth.{nothing, sends, saves}
-use Rattle.paxos_msg.proofs.BallotOrder.{at_most_cases}
 use Rattle.paxos_msg.proofs.CountingNodes.{majorities_meet}
 use Rattle.paxos_msg.proofs.Invariant.{Invariant}
 use Rattle.paxos_msg.proofs.Saves.{saves_keep}
@@ -39,7 +38,8 @@ module _ {size s : ℕ} {sent : Sent} {records : ℕ → Record} {b : Ballot} {v
   -- what is proposed under a greater ballot is the same
   pub later_same : (c : Ballot) (w : Value) → IsSaid sent (Accept c s w) → IsAtMost b c → w ≡ v
   later_same c w said at_most =
-      elim (at_most_cases b c at_most) [
+      let order : IsBelow b c ⊎ (b ≡ c) = grind (arith, nat_tests) in
+      elim order [
         | inl below ↦
             let d = inv.decided c s w said b below in
             let (i, low, high, here, there) = majorities_meet size chosen.0 d.members chosen.1 d.majority in

@@ -41,6 +41,9 @@ typed_at node = record { node = node; start = 1; serial = 1; byte = 65 } ∷ []
 pub is_typed : (node : ℕ) → IsTyped (typed_at node) node (key_at node)
 is_typed node = grind (arith, nat_tests)
 
+pub at_most_refl : (a : Ballot) → IsAtMost a a
+at_most_refl a = grind arith
+
 -- no node has learned anything
 abbrev learned : ℕ → Option Value
 learned s = None

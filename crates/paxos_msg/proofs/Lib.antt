@@ -1,5 +1,4 @@
 pub mod VotesLeft
-pub mod BallotOrder
 pub mod VotesByPlace
 pub mod Invariant
 pub mod Saves
@@ -10,7 +9,6 @@ pub mod Migration
 pub mod GrowthSteps
 pub mod Witness
 pub mod CountingNodes
-pub mod AcceptedCount
 pub mod Fields
 pub mod OwnKeys
 pub mod ValuesRead
@@ -18,5 +16,3 @@ pub mod VotesRead
 pub mod BodiesRead
 pub mod MessagesRead
 pub mod SpellingLengths
-pub mod Retold
-mod RecordsTell

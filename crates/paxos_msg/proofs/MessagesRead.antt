@@ -1,5 +1,5 @@
 -- The law: a datagram is read as a message just where it is the message's spelling.
-use Rattle.std.proofs.Common.{◌≡◌, ℕ, ◌<◌, ◌≤◌, List, Ok, IfOk, arith, ◌↔◌, [], refl}
+use Rattle.std.proofs.Common.{◌≡◌, ℕ, ◌<◌, ◌≤◌, List, Ok, IfOk, arith, [], refl}
 use Rattle.std.proofs.lemmas.Bool.Decides.{nat_tests}
 use Rattle.paxos_msg.specs.declared.bodies.TheConstants.{LAST_KIND}
 use Rattle.paxos_msg.specs.declared.message.Group.{Group}
@@ -43,11 +43,6 @@ message_again group bytes m small h =
     let (above, most) : (0 < kind_of m.body) × (kind_of m.body ≤ LAST_KIND) = grind (arith, nat_tests) in
     let body = rw append-nil at ((bodies group.size m.sender (kind_of m.body) above most).again m.body [] (h.fits.1, refl)) in
     rw (h.spelled, (headers group small).again (kind_of m.body, m.sender) (body_bytes m.body) (above, most, h.fits.0), body) refl
-
-pub reading_is_spelling : (group : Group) (bytes : List ℕ) (m : Msg) → IsGroup group → AreBytes bytes
-    → (message_at group bytes ≡ Ok m) ↔ Msgs group bytes m
-reading_is_spelling group bytes m small are =
-    (λ e. rw e at (message_found group bytes small are), message_again group bytes m small)
 
 pub one_message : (group : Group) (bytes : List ℕ) (m n : Msg) → IsGroup group → Msgs group bytes m → Msgs group bytes n → m ≡ n
 one_message group bytes m n small h k = cc (message_again group bytes m small h, message_again group bytes n small k)

@@ -5,15 +5,12 @@ use Rattle.paxos_msg.specs.declared.ballot.Ballot.{Ballot}
 use Rattle.paxos_msg.specs.Batches.{Change, Record, Sent}
 use Rattle.paxos_msg.specs.Records.{MaySave, IsSaved, changed}
 use Rattle.paxos_msg.proofs.Invariant.{HasPromised, HasVoted, HasRight, Invariant}
-use Rattle.paxos_msg.specs.declared.record.Change.TheVariants.{Ballotted}
 use Rattle.paxos_msg.proofs.VotesByPlace.{vote_after}
 
 -- a vote that was right is right after a change, and the vote there then is under no smaller ballot
 votes_kept : (sent : Sent) (old : Record) (change : Change) (s : ℕ) → MaySave sent old change → HasRight sent s old
     → HasRight sent s (changed old change) × ((b : Ballot) → HasVoted b s old → HasVoted b s (changed old change))
-votes_kept sent old (Ballotted place c v) s may right =
-    grind (arith, nat_tests, vote_after old.votes (record { place = place; ballot = c; value = v }) s)
-votes_kept sent old other s may right = grind (arith, nat_tests)
+votes_kept sent old change s may right = grind (arith, nat_tests, vote_after)
 
 module _ (size : ℕ) (sent : Sent) (records next : ℕ → Record) (i : ℕ) (change : Change)
     (may : MaySave sent (records i) change) (saved : IsSaved records i change next) where

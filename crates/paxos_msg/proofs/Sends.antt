@@ -11,12 +11,7 @@ use Rattle.paxos_msg.specs.declared.message.Body.TheVariants.{Promise, Accept, A
 use Rattle.paxos_msg.specs.Keys.{Key}
 use Rattle.paxos_msg.specs.Messages.{IsSent, IsSaid, IsPromised, kept_vote_at}
 use Rattle.paxos_msg.specs.Sending.{IsGreatest, IsBest, IsUnproposed}
-use Rattle.paxos_msg.proofs.BallotOrder.{order_cases}
-use Rattle.paxos_msg.proofs.Invariant.{HasPromised, HasVoted, HasRight, Invariant, IsDecided}
-
--- who has promised b has passed each ballot below it
-passed : (r : Record) (b c : Ballot) → IsBelow c b → HasPromised b r → IsSomeAnd r.promised (λ p. IsBelow c p)
-passed r b c below h = grind (arith, nat_tests)
+use Rattle.paxos_msg.proofs.Invariant.{HasVoted, HasRight, Invariant, IsDecided}
 
 -- A member of a silent majority accepted nothing below the ballot that it promised, and one of
 -- another nothing above the greatest vote that was reported. So a proposal that is safe is free,
@@ -30,7 +25,7 @@ module _ {size : ℕ} {sent : Sent} {records : ℕ → Record} (c : Ballot) (s :
     members = safe.members;
     majority = safe.majority;
     past = λ i member. record {
-      passed = passed (records i) c b below (inv.held i c s (safe.reported i) (safe.promised i member));
+      passed = grind (arith, nat_tests, below, inv.held i c s (safe.reported i) (safe.promised i member));
       only = only i member;
     };
   }
@@ -59,10 +54,12 @@ module _ {size : ℕ} {sent : Sent} {records : ℕ → Record} (c : Ballot) (s :
       let proposed = great_proposed vote great in
       rw e (
         inv.submitted vote.ballot s vote.value proposed,
-        λ b below. elim (order_cases b vote.ballot) [
-          | inl before ↦ inv.decided vote.ballot s vote.value proposed b before
-          | inr at_most ↦ rw (← e) (by_majority b below (λ i member v h. none_else vote b i v great at_most below member h ∙ sym e))
-        ],
+        λ b below. (
+            let order : IsBelow b vote.ballot ⊎ IsAtMost vote.ballot b = grind arith in
+            elim order [
+              | inl before ↦ inv.decided vote.ballot s vote.value proposed b before
+              | inr at_most ↦ rw (← e) (by_majority b below (λ i member v h. none_else vote b i v great at_most below member h ∙ sym e))
+            ]),
       )
 
   safe_holds : IsFree sent w × ((b : Ballot) → IsBelow b c → IsDecided size sent records b s w)
@@ -130,7 +127,7 @@ module _ (size : ℕ) (typed : List Key) (learned : ℕ → Option Value) (sent 
         reports = λ i b s reported h. elim (promise_cases i b s reported h) [
           | inl old ↦ record {
             latest = λ c v k below. (inv.reports i b s reported old).latest c v
-                (too_late i c s v (passed (records i) b c below (inv.held i b s reported old)) k) below;
+                (too_late i c s v (grind (arith, nat_tests, below, inv.held i b s reported old)) k) below;
             proposed = IfSome_then reported (inv.reports i b s reported old).proposed (λ v. still_said (Accept v.ballot s v.value));
           }
           | inr new ↦ record {

@@ -23,10 +23,6 @@ vote_after (x ∷ xs) vote s = grind (arith, nat_tests, vote_after xs vote s)
 pub vote_at-with_vote_same : (votes : List Vote) (vote : Vote) → kept_vote_at (with_vote votes vote) vote.place ≡ Some vote
 vote_at-with_vote_same votes vote = grind (arith, nat_tests, vote_after votes vote vote.place)
 
-pub vote_at-with_vote_other : (votes : List Vote) (vote : Vote) (s : ℕ) → s ≢ vote.place
-    → kept_vote_at (with_vote votes vote) s ≡ kept_vote_at votes s
-vote_at-with_vote_other votes vote s ne = grind (arith, nat_tests, vote_after votes vote s)
-
 -- a vote that is found is one of the votes, and at the place
 pub vote_found : (votes : List Vote) (s : ℕ) (vote : Vote) → kept_vote_at votes s ≡ Some vote → Contains votes vote × (vote.place ≡ s)
 vote_found [] s vote e = cc

@@ -7,8 +7,7 @@ use Rattle.paxos_msg.specs.Messages.{IsSent}
 use Rattle.paxos_msg.specs.Records.{empty_record}
 use Rattle.paxos_msg.specs.Chosen.{IsChosen, is_listed}
 use Rattle.paxos_msg.specs.Growth.{nothing}
-use Rattle.paxos_msg.proofs.BallotOrder.{at_most_refl}
-use Rattle.paxos_msg.proofs.GrowthSteps.{Grown, accepts, and_sent, at_listed, is_typed, key_at, none_proposed, promised, promises, safe_at_first, typed_at}
+use Rattle.paxos_msg.proofs.GrowthSteps.{Grown, accepts, and_sent, at_listed, at_most_refl, is_typed, key_at, none_proposed, promised, promises, safe_at_first, typed_at}
 
 abbrev ballot : Ballot
 ballot = record { round = 1; node = 1 }

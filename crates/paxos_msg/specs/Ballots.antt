@@ -16,7 +16,7 @@ IsAtMost b c = (b.round < c.round) ⊎ ((b.round ≡ c.round) × (b.node ≤ c.n
 
 -- The number of the nodes 1 to `n` that are members.
 -- Source: Simple 2.2.
--- Allows: Node 0 is no node.
+-- Allows: A member 0, which is no node and is not counted.
 -- Forbids: A node counted twice.
 abbrev pub count_of : (ℕ → Bool) → ℕ → ℕ
 count_of members zero = 0

@@ -69,7 +69,7 @@ said (body.Promise b first upto votes) = Promise b first upto votes
 said (body.Accept b s v) = Accept b s v
 said (body.Accepted b s v) = Accepted b s v
 said (body.Refused b promised) = Refused b promised
-said (body.Submit key) = Submit key
+said (body.Submit v) = Submit v
 said (body.Ask from) = Ask from
 said (body.Tell s v) = Tell s v
 

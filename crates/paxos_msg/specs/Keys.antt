@@ -5,8 +5,7 @@ use Rattle.paxos_msg.specs.declared.value.Value.TheVariants as value
 
 -- A typed character: its node, the number of that node's start, its serial in that start, and the
 -- character.
--- Allows: A no-op, which has no key.
--- Forbids: Two characters under one serial as one key.
+-- Forbids: That two characters are one key, even under one serial.
 pub record Key : Type 0 where
   pub node : ℕ
   pub start : ℕ
@@ -21,6 +20,7 @@ keys_from node start serial (byte ∷ bytes) =
     ∷ keys_from node start (serial + 1) bytes
 
 -- The keys of a value, in order of serial.
+-- Allows: A no-op, which has no key.
 abbrev pub keys_of : Value → List Key
 keys_of value.Noop = []
 keys_of (value.Keys node start first bytes) = keys_from node start first bytes

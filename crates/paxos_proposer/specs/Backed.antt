@@ -18,10 +18,10 @@ pub record HasPromises (sent : Sent) (b : Ballot) (s : ℕ) (members : ℕ → B
   pub is_best : IsBest members reported kept
 
 -- The messages back the proposer of node `me`. From its next place on its votes are those promised
--- to its ballot, and the proposals under its ballot are its own.
+-- to its ballot. The Accepts under its ballot are of what it has proposed, and it has sent each.
 -- Source: Simple 2.2, P2c.
 -- Allows: A proposer that has heard nothing.
--- Forbids: Another node's Accept under its ballot.
+-- Forbids: An Accept under its ballot of what it has not proposed.
 pub record IsProposerBacked (sent : Sent) (me : ℕ) (p : Proposer) : Type 0 where
   pub own : p.ballot.node ≡ me
   pub nodes : length p.coverages ≡ 10

@@ -14,8 +14,6 @@ ghost use Rattle.paxos_proposer.specs.States.{IsProposerInRange};
 ghost use Rattle.paxos_proposer.specs.Proposer.{Proposer, proposer_after_part, new_proposer, next_of, next_value, heard_promise, proposal, proposed_at, proposing};
 ghost use Rattle.paxos_msg.specs.declared.limits.TheConstants.{MOST_NODES, PLACES};
 
-use paxos_msg::laws::votes_are_by_place;
-
 /// A proposer that has heard nothing is backed, if nothing was proposed under its ballot.
 pub fn begins_backed()
     ensures { (sent : Sent) (b : Ballot) (from size : ℕ)
@@ -31,9 +29,7 @@ pub fn parts_keep_it_backed()
         → IsBody p.size j (Promise p.ballot first upto votes) →
         IsSent sent j (Promise p.ballot first upto votes) →
         IsProposerBacked sent me (proposer_after_part p j first upto votes) }
-{
-    votes_are_by_place();
-}
+{}
 
 /// What a backed proposer proposes may be sent, and sent again, if the offered value is a no-op or
 /// was submitted. Once its next proposal is sent, it is backed again.

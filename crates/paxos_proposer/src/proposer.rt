@@ -245,7 +245,4 @@ impl Proposer {
     {
         ballot == self.ballot
     }
-
-    /// Drops the proposer and its ballot.
-    pub fn drop_ballot(self) {}
 }

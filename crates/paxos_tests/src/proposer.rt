@@ -90,11 +90,6 @@ impl Leader {
             self.proposer.is_under(refused),
         )
     }
-
-    fn drop_ballot(self) {
-        let Leader { proposer } = self;
-        proposer.drop_ballot();
-    }
 }
 
 /// What happens to a proposer: a datagram comes, or it proposes a value at a place, if any, with an
@@ -191,7 +186,6 @@ fn worked_promises(rt: HostRuntime) {
         let state = leader.state(Ballot { round: 3, node });
         assert!(rt; state == (4, 65_536, true, false, is_given_up), "{node}");
     }
-    leader.drop_ballot();
 }
 
 /// Nodes 1 and 3 promise 5.3 for the last place.

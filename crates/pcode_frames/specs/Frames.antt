@@ -25,7 +25,7 @@ pub record Space : Type 0 where
 abbrev pub space : List ℕ → List ℕ → List Frame → Space
 space words stack frames = record { words = words; stack = stack; frames = frames }
 
--- The parts after a call or a return that succeeded, or why it was refused.
+-- The space after a call or a return that succeeded, or why it was refused.
 abbrev pub space_if_ok : {A : Type 0} → Result A Halt → Space → Result Space Halt
 space_if_ok (Ok a) p = Ok p
 space_if_ok (Err halt) p = Err halt
@@ -45,7 +45,7 @@ abbrev pub frame_of : Space → ℕ → ℕ → ℕ → ℕ → Frame
 frame_of p procedure size link back =
     record { procedure = procedure; base = length p.words; size = size; link = link; back = back }
 
--- The parts after a call, or why it is refused.
+-- The space after a call, or why it is refused.
 -- The parameters leave the stack for the new frame: its old top gets offset 1, the next offset 2.
 -- The words of its data are zero. Too few words on the stack are refused before lack of room.
 -- Source: Manual, procedure calls. The order of refusals is this project's.
@@ -59,12 +59,12 @@ space_after_call procedure params vars link back p =
       frames = p.frames ++ frame_of p procedure (params + vars) link back ∷ [];
     }))
 
--- The parts with a main frame, of procedure 1, with `size` words, all zero; or why it is refused.
+-- The space with a main frame, of procedure 1, with `size` words, all zero; or why it is refused.
 -- Source: Manual, procedure calls.
 abbrev pub space_after_start : ℕ → Space → Result Space Halt
 space_after_start size p = space_after_call 1 0 size 0 0 p
 
--- The parts after a return from `frame` with n of its words, or why it is refused.
+-- The space after a return from `frame` with n of its words, or why it is refused.
 -- The words at offsets n down to 1 are pushed in this order. A word that is not live is refused
 -- before lack of room.
 -- Source: Manual, procedure calls. The order of refusals is this project's.

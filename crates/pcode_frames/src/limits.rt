@@ -1,4 +1,5 @@
-//! The limits of the parts, each under its name. Code, clauses and definitions cite them.
+//! The limits of memory, stack and frames, each under its name. Code, clauses and definitions cite
+//! them.
 
 /// The most words of memory that are live at once: words 1 to 16,383.
 pub const LIVE_WORDS: usize = 16383;

@@ -9,7 +9,7 @@ import sys
 
 from ..checks import passed
 from ..files import bytes_of
-from ..program import PROGRAM, TOP, Broken
+from ..program import PROGRAM, TOP, check
 from . import limits
 from .cases import CASES
 from .programs import BY_HAND, PROGRAMS
@@ -28,11 +28,6 @@ STEPS = "4000000000"
 BITS = ("STRING SET ^ NIL 0 32768 - [ ] VAR FORWARD; RECORD '' 1.5 WITH IN EXIT(PROGRAM) BEGIN "
         "END CASE ; : := . .. ( ) PACKED ARRAY OF FUNCTION USES LABEL GOTO 1: { (* $R- {$R-} \" \0"
         ).split(" ")
-
-
-def check(holds, what):
-    if not holds:
-        raise Broken(what)
 
 
 def write(name, data):

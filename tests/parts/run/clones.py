@@ -206,7 +206,3 @@ class Clone(Checks):
     def is_tidy(self):
         """Whether nothing is left of what a script made for itself."""
         return not os.listdir(self.at("tmp"))
-
-    def tidy(self):
-        for name in os.listdir(self.at("tmp")):
-            shutil.rmtree(self.at(f"tmp/{name}"))

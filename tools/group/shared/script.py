@@ -78,11 +78,6 @@ def script_of(data):
     return Script(int(first[1]), int(first[2]), lines)
 
 
-def read_script(path):
-    with open(path, "rb") as file:
-        return script_of(file.read())
-
-
 def text_of_event(event):
     """The line of an event, without its end."""
     kind, node, amount, outcome = event

@@ -35,8 +35,6 @@ LINES = {
 LINES = {name: re.compile(pattern, re.ASCII) for name, pattern in LINES.items()}
 FIRST = re.compile(r"(?:@\d{1,15} )?trace 1 node .*", re.ASCII)
 TIMED = re.compile(r"@(\d{1,15}) (.*)", re.ASCII)
-# The calls that a save is part of, so that their lines have to be begun.
-SAVING = ("start", "hear", "campaign")
 ALL = "all"
 
 

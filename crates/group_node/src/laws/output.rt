@@ -1,9 +1,9 @@
 //! The laws of a node's output.
-ghost use Rattle.std.specs.Prelude.{◌≡◌, ◌+◌, ◌≤◌, ◌∷◌, ℕ, List};
+ghost use Rattle.std.specs.Prelude.{◌≡◌, ◌+◌, ◌≤◌, ◌∷◌, ℕ, List, length};
 ghost use Rattle.std.specs.FinMap.{FinMap};
 ghost use Rattle.std.specs.Ordering.{nat_cmp};
 ghost use Rattle.pcode_file.specs.Parts.{Parts};
-ghost use Rattle.pcode_machine.specs.Runs.{after_steps, LeadsIn};
+ghost use Rattle.pcode_machine.specs.Runs.{after_steps, LeadsIn, out};
 ghost use Rattle.paxos_msg.specs.declared.value.Value.{Value};
 ghost use Rattle.paxos_learner.specs.Learner.{HasLearnedMore};
 ghost use Rattle.paxos_learner.specs.Input.{learned_input};
@@ -36,10 +36,10 @@ pub fn learning_keeps_the_output()
     run_is_after();
 }
 
-/// Before its first step no replay has released a byte, as its machine has written none.
+/// No replay has released more bytes than its machine has written.
 pub fn replays_release_what_is_written()
-    ensures none_before { (p : Parts) (x : List ℕ)
-        → ¬ IsReplay x (record (no_progress p) { released = 1 }) }
+    ensures written { (x : List ℕ) (q : Progress) → IsReplay x q
+        → q.released ≤ length (out q.program x q.steps) }
 {}
 
 /// A run, and the release of a byte to the console, are deeds that the group allows, if the machine

@@ -13,7 +13,7 @@ ghost use Rattle.group_world.specs.Processes.{AreEventsOf, IsLog};
 ghost use Rattle.group_world.specs.Timed.{AllHearEarlier, IsByTime};
 ghost use Rattle.group_world.specs.Witness.{echoes};
 ghost use Rattle.group_world.specs.WrittenLogs.{IsNoLog, IsSomeLog, five_nodes, nine_nodes, node_in, three_nodes};
-ghost use Rattle.group_world.specs.WrongLogs.{IsOnlyOfUp, answers, campaigning, crashes, deliver_event, failed_and_starts_over, heard_at, hears_ask_from, idle_sends, idle_types, nodes_down, only_start, press_event, press_types, presses, releasing, run_sends, starts_again_over, starts_twice, tick_sends, ticks, two_start};
+ghost use Rattle.group_world.specs.WrongLogs.{IsOnlyOfUp, answers, campaigning, crashes, deliver_event, failed_and_starts_over, heard_at, hears_ask_from, idle_sends, idle_types, nodes_down, only_start, press_event, press_types, presses, releasing, run_sends, runs_no_step, starts_again_over, starts_twice, tick_sends, ticks, two_start};
 
 use group_node::laws::learning_keeps_the_output;
 use paxos_msg::grammar::spelling_is_read;
@@ -24,8 +24,8 @@ use pcode_machine::laws::output_only_grows;
 /// No start is over an older record than its store has: not after a crash, nor after a save that
 /// failed and left the changed record.
 ///
-/// A node that is down does not tick, take a byte, campaign, release or crash, and one that is up
-/// does not start. A group of three has no node 4, one of nine no node 10, and none a node 0. An
+/// A node that is down does not tick, take a byte, campaign, run, release or crash, and one that is
+/// up does not start. A group of three has no node 4, one of nine no node 10, and none a node 0. An
 /// idle node sends and types nothing, and a run sends nothing; a tick sends its Ask, and sends it
 /// once. No byte is 256, and the first key has the serial 1. After a log there are as many nodes as
 /// before, and a node that did nothing is as before.
@@ -41,6 +41,7 @@ pub fn wrong_logs()
     ensures ticks { IsOnlyOfUp nine_nodes (node_in nine_nodes 7) ticks }
     ensures presses { IsOnlyOfUp nine_nodes (node_in nine_nodes 9) presses }
     ensures campaigns { IsOnlyOfUp five_nodes (node_in five_nodes 2) campaigning }
+    ensures runs { IsOnlyOfUp five_nodes (node_in five_nodes 5) runs_no_step }
     ensures releases { IsOnlyOfUp five_nodes (node_in five_nodes 3) releasing }
     ensures crashes { IsOnlyOfUp nine_nodes (node_in nine_nodes 6) crashes }
     ensures starts_twice { IsNoLog nine_nodes starts_twice }

@@ -5,7 +5,6 @@ use Rattle.paxos_proposer.specs.Proposer.{next_of}
 use Rattle.group_protocol.specs.Tick.{accept_again}
 use Rattle.group_protocol.proofs.Places.{few_put, more_put, most_put, one_more}
 use Rattle.group_protocol.proofs.tick.accept_all_again.Goals as goal
-use Rattle.group_protocol.proofs.tick.accept_all_again.Goals.{then-accept_again, else-accept_again}
 
 pub loop-place-preserved : goal.loop-place-preserved
 loop-place-preserved c =
@@ -15,15 +14,8 @@ loop-place-preserved c =
     omega (arith, c.loop-place.auto.place, c.known_front-place.ensures.front) in
     let next : c.loop-place.place + 1 - first ≡ suc (c.loop-place.place - first) = omega arith in
     let more = one_more (accept_again c.args.learner.now.learned c.args.proposer.now.known) first (c.loop-place.place - first) in
-    let some = c.accept_again.ensures.some in
     let put = more_put c.loop-place.place (c.loop-place.place + 1 - first) i.put here next c.accept_again.ensures.packets in
-    elim c.if-accept_again.branch [
-      | then-accept_again w ↦
-          grind (arith, nat_tests, put, here, next, more, length-append, some, w.if-accept_again.true, i, w.sent-is)
-      | else-accept_again w ↦
-          let same = c.accept_again.ensures.none (λ t. let e : false ≡ true = rw w.if-accept_again.false at t in absurd cc) in
-          grind (arith, nat_tests, put, here, next, more, length-append, some, w.if-accept_again.false, i, w.sent-is, same)
-    ]
+    grind (arith, nat_tests, put, here, next, more, length-append, c.accept_again.ensures, i, c.if-accept_again.branch)
 
 pub returns-then-sent-eq-MOST_AGAIN-clause-packets : goal.returns-then-sent-eq-MOST_AGAIN-clause-packets
 returns-then-sent-eq-MOST_AGAIN-clause-packets c =

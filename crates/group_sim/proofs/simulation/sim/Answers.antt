@@ -16,7 +16,7 @@ loop-line-preserved g c =
 pub returns-clause-performs : goal.returns-clause-performs
 returns-clause-performs g c =
     let all : c.loop-line.line-index ≡ length c.args.script.now.lines.items = rw (← c.deref-line-items.ensures.value) (omega arith) in
-    record { done = λ _. record { end = _; done = rw all at c.loop-line.invariant.done; written = refl }; stopped = tt; unwritten = tt }
+    record { done = λ _. record { end = _; done = rw all at c.loop-line.invariant.done; written = refl }; halted = tt; unwritten = tt }
 
 pub returns-in-Err-perform : goal.returns-in-Err-perform
 returns-in-Err-perform g c =
@@ -26,6 +26,6 @@ returns-in-Err-perform g c =
     record {
       line = search rules;
       write = search rules;
-      performs = answers _ _ _ c.stopped_at-in-Err-perform.ensures halted;
+      performs = answers _ _ _ c.halted_at-in-Err-perform.ensures halted;
       size = search rules;
     }

@@ -1,8 +1,8 @@
-use Rattle.std.proofs.Common.{subst, arith}
-use Rattle.std.proofs.lemmas.List.{take_all}
+use Rattle.std.proofs.Common.{subst, arith, take_all}
+use Rattle.std.proofs.lemmas.Option.{slice_get-get_or}
 use Rattle.group_world.specs.Event.{LeadsBy}
 use Rattle.group_world.specs.Group.{new_world}
-use Rattle.group_world.proofs.HoldsAfterEvents.{first_refused, happens_next}
+use Rattle.group_world.proofs.HoldsAfterEvents.{happens_next}
 use Rattle.group_world.proofs.running.run.Goals as goal
 
 pub loop-event-preserved : goal.loop-event-preserved
@@ -31,4 +31,4 @@ returns c =
 
 pub returns-in-Err-apply-clause-refused : goal.returns-in-Err-apply-clause-refused
 returns-in-Err-apply-clause-refused c =
-    grind (arith, first_refused _ _ _ _ _ _ c.loop-event-test.true c.loop-event.invariant c.in-Err-apply.ensures.applies.refused)
+    grind (arith, slice_get-get_or, c.loop-event-test.true, c.loop-event.invariant, c.in-Err-apply.ensures.applies.refused)

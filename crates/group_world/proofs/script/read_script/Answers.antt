@@ -1,12 +1,12 @@
 use Rattle.std.proofs.Common.{rules, ◌≡◌, ◌+◌, ◌<◌, length, ap, sym, ◌∙◌, arith}
 use Rattle.group_world.specs.Scripts.{line_of}
-use Rattle.group_world.proofs.ScriptLines.{all_read, bad_line, no_group, read_next, reached, script_then}
+use Rattle.group_world.proofs.ScriptLines.{all_read, bad_line, read_next, reached, script_of-first, script_then}
 use Rattle.group_world.proofs.script.read_script.Goals as goal
 
 -- the first line says nothing
 pub returns-in_default-clause-refused : goal.returns-in_default-clause-refused
 returns-in_default-clause-refused c =
-    grind (arith, no_group)
+    grind (arith, script_of-first)
 
 -- another line says nothing
 pub returns-in_default-read_line-clause-refused : goal.returns-in_default-read_line-clause-refused

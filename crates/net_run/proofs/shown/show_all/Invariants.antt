@@ -1,7 +1,7 @@
 use Rattle.std.proofs.Common.{◌≡◌, ◌≤◌, [], Option, length}
 use Rattle.group_wire.specs.Doings.{HasActed}
 use Rattle.group_wire.specs.Traffic.{Traffic}
-use Rattle.net_run.specs.Shown.{ReleasesFirst, ShowsReleased, waiting_output}
+use Rattle.net_run.specs.Shown.{ReleasesFirst, ShowsReleased}
 use Rattle.net_run.proofs.shown.show_all.Given as goal
 
 -- as many bytes were released as turns were made, and the console shows them

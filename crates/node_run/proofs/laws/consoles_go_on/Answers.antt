@@ -7,7 +7,7 @@ use Rattle.pcode_file.specs.Parts.{Parts}
 use Rattle.pcode_machine.specs.Runs.{AreComparable, IsOutput, out}
 use Rattle.group_node.specs.Output.{IsReplay, Progress}
 use Rattle.group_wire.specs.Turns.{released_of}
-use Rattle.node_run.specs.Output.{AreFirst, shown_of}
+use Rattle.node_run.specs.Output.{AreFirst, released_from}
 use Rattle.node_run.proofs.laws.consoles_go_on.Goals as goal
 
 -- the first bytes of an output are output
@@ -16,7 +16,7 @@ first_is_output p z k bytes h =
     (h.steps, record { rest = drop k (out p z h.steps); whole = grind (arith, common_steps, take-append-drop) })
 
 -- what a first start shows
-first_start : (x : List ℕ) (q : Progress) → IsReplay x q → AreFirst q.program x q.released (shown_of 0 x q)
+first_start : (x : List ℕ) (q : Progress) → IsReplay x q → AreFirst q.program x q.released (released_from 0 x q)
 first_start x q h = record { steps = q.steps; first = refl; many = grind (arith, common_steps) }
 
 -- outputs on comparable inputs are comparable
@@ -25,8 +25,8 @@ Compared = (p : Parts) (x y a b : List ℕ) → AreComparable x y → IsOutput p
 
 -- what a console shows after a later start
 later_start : Compared → (x y console : List ℕ) (q : Progress) → AreComparable x y → IsOutput q.program x console → IsReplay y q
-    → AreFirst q.program x (max (length console) q.released) (console ++ shown_of (length console) y q)
-    ⊎ AreFirst q.program y (max (length console) q.released) (console ++ shown_of (length console) y q)
+    → AreFirst q.program x (max (length console) q.released) (console ++ released_from (length console) y q)
+    ⊎ AreFirst q.program y (max (length console) q.released) (console ++ released_from (length console) y q)
 later_start compared x y console q same (n, shows) h =
     elim (compared q.program x y console (released_of y q) same (n, shows) (first_is_output _ _ _ _ (first_start y q h))) [
       | inl less ↦ inr (record {

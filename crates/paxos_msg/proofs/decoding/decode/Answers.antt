@@ -2,7 +2,6 @@
 use Rattle.std.proofs.Common.{arith}
 use Rattle.std.proofs.lemmas.Bool.Decides.{nat_tests}
 use Rattle.paxos_msg.proofs.MessagesRead.{message_again, message_found}
-use Rattle.paxos_msg.proofs.SpellingLengths.{few_votes}
 use Rattle.paxos_msg.proofs.decoding.decode.Goals as goal
 
 pub returns-clause-found : goal.returns-clause-found
@@ -14,4 +13,4 @@ pub returns-clause-only : goal.returns-clause-only
 returns-clause-only c m h = grind (arith, nat_tests, message_again c.args.group c.args.bytes.now m (omega arith) h, c.message_of.ensures)
 
 pub returns-clause-few : goal.returns-clause-few
-returns-clause-few c = grind (arith, nat_tests, few_votes c.args.group.size, returns-clause-found c)
+returns-clause-few c = grind (arith, nat_tests, returns-clause-found c)

@@ -69,22 +69,22 @@ module _ {w : WorldState} {n : Known} {k : ℕ} {c : Configuration} {console : L
       grind (arith, nat_tests, sits.seat, seat_alone w n.me.node seat, seat_here w n.me.node seat)
 
 pub returns-clause-press : goal.returns-clause-press
-returns-clause-press c w n byte k configuration console sits ranges h = record {
+returns-clause-press c w n byte k configuration console seated = record {
   key = record { node = n.me.node; start = n.kept.starts; serial = next_serial n; byte = byte };
   node = refl;
-  start = ap (λ (s : Seat). s.kept.starts) (sym sits.seat);
+  start = ap (λ (s : Seat). s.kept.starts) (sym seated.sits.seat);
   character = refl;
   call =
-      call_made sits (on_typed n byte) (keys_of (new_key n byte)) ranges
-      (c.calls_are_lawful.ensures.typed w.sent w.typed n byte ranges h) refl refl
+      call_made seated.sits (on_typed n byte) (keys_of (new_key n byte)) seated.ranges
+      (c.calls_are_lawful.ensures.typed w.sent w.typed n byte seated.ranges seated.backs) refl refl
       (all_stay (c.waiting_keys_are_a_row.ensures.typed n byte));
 }
 
 pub returns-clause-hear : goal.returns-clause-hear
-returns-clause-hear c w n j k body configuration console sits ranges h fits sent =
+returns-clause-hear c w n j k body configuration console seated fits sent =
     let made =
-    call_alone sits (on_message n j body) ranges
-    (c.calls_are_lawful.ensures.message w.sent w.typed n j body ranges h (record { is_sent = sent; fits = fits }))
+    call_alone seated.sits (on_message n j body) seated.ranges
+    (c.calls_are_lawful.ensures.message w.sent w.typed n j body seated.ranges seated.backs (record { is_sent = sent; fits = fits }))
     (grind (arith, nat_tests)) (grind (arith, nat_tests, c.learned_stays.ensures))
     (grind (arith, c.waiting_keys_are_a_row.ensures.gone (row n j body).node)) in
     record {
@@ -95,33 +95,34 @@ returns-clause-hear c w n j k body configuration console sits ranges h fits sent
     }
 
 pub returns-clause-campaign : goal.returns-clause-campaign
-returns-clause-campaign c w n k configuration console sits ranges h = record {
+returns-clause-campaign c w n k configuration console seated = record {
   round = (next_ballot n).round;
   call =
-      inl (call_alone sits (on_campaign n) ranges
-      (c.calls_are_lawful.ensures.campaign w.sent w.typed n ranges h) refl refl (all_stay refl));
+      inl (call_alone seated.sits (on_campaign n) seated.ranges
+      (c.calls_are_lawful.ensures.campaign w.sent w.typed n seated.ranges seated.backs) refl refl (all_stay refl));
 }
 
 pub returns-clause-tick : goal.returns-clause-tick
-returns-clause-tick c w n k configuration console sits ranges h =
+returns-clause-tick c w n k configuration console seated =
     let none : (on_tick n).saves ≡ None = grind (arith, nat_tests) in
     let stay : waiting_keys (on_tick n).node ≡ waiting_keys n = grind (arith, nat_tests) in
     grind (arith, nat_tests, call_alone, all_stay, c.calls_are_lawful.ensures.tick)
 
 pub returns-clause-falls_hearing : goal.returns-clause-falls_hearing
-returns-clause-falls_hearing c w n j k body left configuration console sits ranges h fits sent some one = record {
+returns-clause-falls_hearing c w n j k body left configuration console seated fits sent some one = record {
   is_sent = sent;
   saved = (on_message n j body).saves;
   cause = grind (arith, nat_tests);
   call =
-      call_fell sits left (on_message n j body).node.kept (on_message n j body).saves some
-      (c.calls_are_lawful.ensures.message w.sent w.typed n j body ranges h (record { is_sent = sent; fits = fits })).saves one;
+      call_fell seated.sits left (on_message n j body).node.kept (on_message n j body).saves some
+      (c.calls_are_lawful.ensures.message w.sent w.typed n j body seated.ranges seated.backs
+      (record { is_sent = sent; fits = fits })).saves one;
 }
 
 pub returns-clause-falls_campaign : goal.returns-clause-falls_campaign
-returns-clause-falls_campaign c w n k left configuration console sits ranges h one = record {
+returns-clause-falls_campaign c w n k left configuration console seated one = record {
   round = (next_ballot n).round;
   call =
-      call_fell sits left (on_campaign n).node.kept (on_campaign n).saves (λ e. absurd cc)
-      (c.calls_are_lawful.ensures.campaign w.sent w.typed n ranges h).saves one;
+      call_fell seated.sits left (on_campaign n).node.kept (on_campaign n).saves (λ e. absurd cc)
+      (c.calls_are_lawful.ensures.campaign w.sent w.typed n seated.ranges seated.backs).saves one;
 }

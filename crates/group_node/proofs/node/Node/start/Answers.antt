@@ -24,7 +24,6 @@ pub returns-clause-fresh : goal.returns-clause-fresh
 returns-clause-fresh g c =
     let was = c.in-Ok.ensures.opened.is_open in
     record {
-      begins = search rules;
       works = (begun _ _ _ _ c.in_ok-protocol.ensures.over was).works;
       progress = search rules;
       ranges = c.in_ok-protocol.ensures.ranges;

@@ -1,10 +1,9 @@
 -- A node after a message that has a spelling: it stays in its ranges, and what it sends has a
 -- spelling.
-use Rattle.std.proofs.Common.{◌≡◌, ◌∙◌, ℕ, ◌+◌, ◌≤◌, List, [], ◌∷◌, length, drop, refl, subst, arith}
+use Rattle.std.proofs.Common.{◌≡◌, ◌∙◌, ℕ, ◌+◌, ◌≤◌, List, [], ◌∷◌, length, drop, refl, arith}
 use Rattle.std.proofs.lemmas.List.{get_or-drop, length-drop}
 use Rattle.std.proofs.lemmas.List.Elements.{All-append}
 use Rattle.std.proofs.lemmas.Bool.Decides.{nat_tests}
-use Rattle.paxos_msg.specs.declared.ballot.Ballot.{Ballot}
 use Rattle.paxos_msg.specs.declared.message.Body.TheVariants.{Promise}
 use Rattle.paxos_msg.specs.Bodies.{IsBody}
 use Rattle.paxos_msg.specs.Fits.{AreBytes}
@@ -14,41 +13,28 @@ use Rattle.paxos_acceptor.specs.Records.{IsRecord}
 use Rattle.paxos_proposer.specs.Proposer.{asks_on, Proposer, proposer_after_part}
 use Rattle.group_protocol.specs.declared.packet.To.{To}
 use Rattle.group_protocol.specs.AcceptorRows.{answering}
-use Rattle.group_protocol.specs.Known.{Known, quiet}
+use Rattle.group_protocol.specs.Known.{Known}
 use Rattle.group_protocol.specs.ProposerRows.{offer_after, prepare_from, proposing_on}
 use Rattle.group_protocol.specs.WaitingKeys.{count_read, count_gone}
 use Rattle.group_protocol.specs.Packets.{Packet}
 use Rattle.group_protocol.specs.Pump.{accepts_of, Proposals, pump}
-use Rattle.group_protocol.specs.Ranges.{AllFit, AreFit, IsFit, IsInRange, IsOwnProposer, IsWaiting}
+use Rattle.group_protocol.specs.Ranges.{AllFit, AreFit, IsFit, IsInRange, IsOwnProposer}
 use Rattle.group_protocol.proofs.ByCases.{by_offer, by_part, each_asked, each_tell}
-use Rattle.group_protocol.proofs.PacketsFit.{tell_fits, AcceptLaws, asks_on_fits, led_range, offer_after_fits, IsPacketFit, pump_fits}
+use Rattle.group_protocol.proofs.PacketsFit.{AcceptLaws, offer_after_fits, IsPacketFit, pump_fits}
 use Rattle.group_protocol.proofs.laws.fitting.rows_fit.Goals as goal
 
 -- ---- keys that leave
 
--- no more keys are read than there are
-count_few : (read keys : List Key) → count_read read keys ≤ length keys
-count_few read [] = omega arith
-count_few read (k ∷ ks) = grind (arith, nat_tests, count_few read ks)
-
--- a key for each character
-keys_many : (node start serial : ℕ) (bytes : List ℕ) → length (keys_from node start serial bytes) ≡ length bytes
-keys_many node start serial [] = refl
-keys_many node start serial (x ∷ xs) = omega (arith, keys_many node start (serial + 1) xs)
+-- no more keys are read than there are characters
+count_few : (read : List Key) (node start serial : ℕ) (bytes : List ℕ) → count_read read (keys_from node start serial bytes) ≤ length bytes
+count_few read node start serial [] = omega arith
+count_few read node start serial (x ∷ xs) = grind (arith, nat_tests, count_few read node start (serial + 1) xs)
 
 -- the rest of bytes is bytes
 drop_bytes : (n : ℕ) (bytes : List ℕ) → AreBytes bytes → AreBytes (drop n bytes)
 drop_bytes n bytes h1 = grind (arith, nat_tests, get_or-drop)
 
--- characters that wait are in their ranges when some have left from the front
-waiting_less : (first k : ℕ) (bytes : List ℕ) → k ≤ length bytes → IsWaiting first bytes → IsWaiting (first + k) (drop k bytes)
-waiting_less first k bytes low h = grind (arith, nat_tests, length-drop, drop_bytes)
-
 -- ---- calls
-
--- a call that sends nothing
-quiet_fits : (n : Known) → IsInRange n → IsFit n.me (quiet n)
-quiet_fits n h = grind (arith, nat_tests)
 
 module _ (n : Known) (h : IsInRange n) where
   -- an answer, by what it saves and says
@@ -62,7 +48,7 @@ module _ (n : Known) (h : IsInRange n) where
       → AreFit n.me p proposals → IsFit n.me (proposing_on n before proposals)
   proposing_fits p before proposals fit f = record {
     same = refl;
-    ranges = led_range n h f.own;
+    ranges = grind (arith, nat_tests, f.own);
     sends = All-append (IsPacketFit n.me) before (accepts_of proposals.made) fit f.sends;
   }
 
@@ -79,15 +65,13 @@ returns-clause-prepare c n j from b h (some, (ballot, own, place)) =
 
 pub returns-clause-promise : goal.returns-clause-promise
 returns-clause-promise c n j first upto b votes h heard =
-    by_part (IsFit n.me) n n.proposer j first upto b votes (quiet_fits n h) (λ p e t.
+    by_part (IsFit n.me) n n.proposer j first upto b votes (grind (arith, nat_tests)) (λ p e t.
     let own : IsOwnProposer n.me p = rw e at h.proposer in
     let same : p.ballot ≡ b = (c.tests_are_exact.ensures.same p.ballot b).0 t in
     let next : Proposer = proposer_after_part p j first upto votes in
     let kept = c.ballot_stays.ensures.parts p j (Promise p.ballot first upto votes) in
     let fits = c.what_goes_out_fits.ensures.parts j first upto p votes own.ranges (rw (own.size, same) heard.1) in
-    let before =
-    subst (λ (b : Ballot). AllFit n.me (prepare_from b j (asks_on p j first upto))) same
-    (each_asked (IsPacketFit n.me) p.ballot j (asks_on p j first upto) (λ s. asks_on_fits n.me p own j first upto s)) in
+    let before = each_asked (IsPacketFit n.me) b j (asks_on p j first upto) (λ s e. grind (arith, nat_tests)) in
     proposing_fits n h next (prepare_from b j (asks_on p j first upto)) (pump 16 next) before
     (pump_fits (accepts c) n.me 16 next
     (record { size = kept.1 ∙ own.size; own = rw kept.0 own.own; ranges = fits })))
@@ -100,16 +84,17 @@ returns-clause-accept c n j s b v h (some, (ballot, own, place, value)) =
 
 pub returns-clause-submit : goal.returns-clause-submit
 returns-clause-submit c n j v h (some, (value, own)) =
-    by_offer (IsFit n.me) n n.proposer v (quiet_fits n h) (λ p e.
+    by_offer (IsFit n.me) n n.proposer v (grind (arith, nat_tests)) (λ p e.
     let pumped = pump_fits (accepts c) n.me 16 p (rw e at h.proposer) in
     let made = offer_after_fits (accepts c) n.me (pump 16 p) v pumped.own value in
     let f = proposing_fits n h (pump 16 p).proposer (accepts_of (pump 16 p).made) (offer_after (pump 16 p) v) pumped.sends made in
-    record { same = refl; ranges = led_range n h made.own; sends = f.sends })
+    record { same = refl; ranges = grind (arith, nat_tests, made.own); sends = f.sends })
 
 pub returns-clause-ask : goal.returns-clause-ask
-returns-clause-ask c n j from h = record { same = refl; ranges = h; sends = each_tell (IsPacketFit n.me) n j from (tell_fits n h) }
+returns-clause-ask c n j from h =
+    record { same = refl; ranges = h; sends = each_tell (IsPacketFit n.me) n j from (λ s v e. grind (arith, nat_tests)) }
 
 pub returns-clause-gone : goal.returns-clause-gone
 returns-clause-gone c n h =
-    let few : count_gone n ≤ length n.waiting = grind (arith, nat_tests, count_few, keys_many) in
-    grind (arith, nat_tests, waiting_less n.first (count_gone n) n.waiting few h.waiting)
+    let few : count_gone n ≤ length n.waiting = count_few _ n.me.node n.kept.starts n.first n.waiting in
+    grind (arith, nat_tests, length-drop, drop_bytes, few)

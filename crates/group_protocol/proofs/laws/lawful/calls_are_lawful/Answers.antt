@@ -1,5 +1,5 @@
 -- The calls of a node are lawful: a start, a typed byte, a campaign, a tick, and a message.
-use Rattle.std.proofs.Common.{◌≡◌, ℕ, inl, inr, List, [], ◌∷◌, ◌++◌, append_assoc, take, Some, All, Contains, refl, arith}
+use Rattle.std.proofs.Common.{◌≡◌, ℕ, inl, List, [], ◌∷◌, ◌++◌, append_assoc, take, Some, All, Contains, refl, arith}
 use Rattle.std.proofs.lemmas.List.{append-nil}
 use Rattle.std.proofs.lemmas.List.Elements.{All-append, Contains-append_cases, Contains-append_left, Contains-append_right}
 use Rattle.std.proofs.lemmas.Bool.Decides.{nat_tests}
@@ -12,9 +12,8 @@ use Rattle.paxos_msg.specs.Batches.{IsTyped, Sent}
 use Rattle.paxos_msg.specs.Keys.{Key, keys_of}
 use Rattle.paxos_msg.specs.Messages.{IsSent}
 use Rattle.paxos_msg.specs.Records.{MaySave}
-use Rattle.paxos_proposer.specs.Proposer.{coverage_of}
 use Rattle.group_protocol.specs.Backs.{Backs}
-use Rattle.group_protocol.specs.Known.{front, Known, new_key, on_start, on_typed, own_batch}
+use Rattle.group_protocol.specs.Known.{front, Known, new_key, on_start, own_batch}
 use Rattle.group_protocol.specs.Packets.{Packet, to_all}
 use Rattle.group_protocol.specs.Protocol.{on_message, row}
 use Rattle.group_protocol.specs.ProposerRows.{next_ballot, on_campaign}
@@ -23,8 +22,7 @@ use Rattle.group_protocol.specs.Steps.{IsLawful}
 use Rattle.group_protocol.specs.Tick.{accepts_again, asks, prepares_again}
 use Rattle.group_protocol.specs.WaitingKeys.{batch_of, count_gone, waiting_keys}
 use Rattle.group_protocol.proofs.ByCases.{by_tick, each_accept, each_last, each_prepare}
-use Rattle.group_protocol.proofs.Campaigning.{next_is_above}
-use Rattle.group_protocol.proofs.Sending.{led_lawful, prepare_stable, sent_lawful, sound, then_pump, leading, promised_same, quiet_lawful, goes_on, IsStable, sender_of, ProposingLaws, SendingLaws, stable_goes}
+use Rattle.group_protocol.proofs.Sending.{IsSound, led_lawful, then_pump, leading, quiet_lawful, goes_on, IsStable, sender_of, ProposingLaws, SendingLaws, stable_goes}
 use Rattle.group_protocol.proofs.Saving.{record_saved}
 use Rattle.group_protocol.proofs.WaitingKeys.{batch_typed, first_keys, keys_from-append, last_keys}
 use Rattle.group_protocol.proofs.laws.lawful.calls_are_lawful.Goals as goal
@@ -45,16 +43,6 @@ asks_stable sent typed n h =
     each_last (IsStable (sender_of typed n) sent) n
     (λ v e. record { may = waiting_typed n n.waiting refl h v e; old = tt }) (record { may = tt; old = tt })
 
--- the keys that wait after a typed byte were typed
-typed_waits : (typed : List Key) (n : Known) (byte : ℕ) (k : Key) → (Contains (waiting_keys n) k → Contains typed k)
-    → Contains (waiting_keys (on_typed n byte).node) k → Contains (typed ++ keys_of (new_key n byte)) k
-typed_waits typed n byte k old has =
-    elim (Contains-append_cases (waiting_keys n) (keys_of (new_key n byte)) k
-    (rw (keys_from-append n.me.node n.kept.starts n.first n.waiting (byte ∷ [])) at has)) [
-      | inl before ↦ Contains-append_left typed (keys_of (new_key n byte)) k (old before)
-      | inr new ↦ Contains-append_right typed (keys_of (new_key n byte)) k new
-    ]
-
 sending : goal.After-begins_backed → SendingLaws
 sending c = grind (arith, nat_tests)
 
@@ -73,12 +61,20 @@ returns c = record {
     kept = h.kept;
     proposer = h.proposer;
     learner = h.learner;
-    waiting = λ k. typed_waits typed n byte k (h.waiting k);
+    waiting = λ k has. grind (
+      arith,
+      nat_tests,
+      h.waiting k,
+      Contains-append_cases (waiting_keys n) (keys_of (new_key n byte)) k
+          (rw (keys_from-append n.me.node n.kept.starts n.first n.waiting (byte ∷ [])) at has),
+      Contains-append_left,
+      Contains-append_right,
+    );
   });
   campaign = λ sent typed n ranges h.
       let b : Ballot = next_ballot n in
       let next : Known = (on_campaign n).node in
-      let may : MaySave sent n.kept (change.Promise b) = next_is_above n.kept.promised n.remembered n.me.node in
+      let may : MaySave sent n.kept (change.Promise b) = grind (arith, nat_tests) in
       let backs : Backs sent typed next = record {
         kept =
             record_saved (record { raises = c.saves_only_raise.ensures.promise; saved = c.backing.ensures.saved })
@@ -95,17 +91,17 @@ returns c = record {
       let goes =
       stable_goes (sending c) sent typed next (on_campaign n).sends backs
       (all_of_one (IsStable (sender_of typed next) sent) (to_all (Prepare b (front n)))
-      (record { may = (refl, promised_same next.kept b refl); old = tt })) in
+      (record { may = (refl, grind (arith, nat_tests)); old = tt })) in
       grind (arith, nat_tests, may, goes, h.learner);
   tick = λ sent typed n ranges h. by_tick (IsLawful sent typed n.kept n.learner.learned) n n.proposer
-      (sent_lawful h (stable_goes (sending c) sent typed n (asks n) h (asks_stable sent typed n h))) (λ p e.
-      let g = sound h ranges p e in
+      (led_lawful n.offered h (stable_goes (sending c) sent typed n (asks n) h (asks_stable sent typed n h))) (λ p e.
+      let g : IsSound sent n p = grind (arith, nat_tests) in
       let before : List Packet = prepares_again p ++ accepts_again n.learner.learned p in
       let S : Packet → Type 0 = IsStable (sender_of typed n) sent in
       let laws : ProposingLaws = grind (arith, nat_tests) in
       let pumped =
       then_pump h laws p before g (All-append S (prepares_again p) (accepts_again n.learner.learned p)
-      (each_prepare S p (λ i low. prepare_stable h p g _ (coverage_of p i)))
+      (each_prepare S p (λ i low. grind (arith, nat_tests)))
       (each_accept S n.learner.learned p (λ s v e.
       let was : IsSent sent n.me.node (Accept p.ballot s v) = g.led.backed.sent_all s v e in
       record { may = (g.led.backed.own, inl was); old = was }))) in

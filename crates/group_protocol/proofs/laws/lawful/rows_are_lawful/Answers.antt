@@ -3,6 +3,7 @@ use Rattle.std.proofs.Common.{◌≡◌, ◌↔◌, ◌++◌, ℕ, false, inr, L
 use Rattle.std.specs.FinMap.{get}
 use Rattle.std.proofs.lemmas.Bool.Decides.{nat_tests}
 use Rattle.std.proofs.lemmas.List.{append-nil}
+use Rattle.std.proofs.lemmas.List.Elements.{Contains-append_left}
 use Rattle.base.proofs.Branches.{either}
 use Rattle.base.proofs.Lists.{all_of_one}
 use Rattle.paxos_msg.specs.declared.ballot.Ballot.{Ballot}
@@ -32,8 +33,7 @@ use Rattle.group_protocol.specs.Pump.{accepts_of, pump}
 use Rattle.group_protocol.specs.Ranges.{IsInRange}
 use Rattle.group_protocol.specs.Steps.{IsDelivered, IsLawful, messages_handed_out}
 use Rattle.group_protocol.proofs.ByCases.{by_offer, by_part, each_asked, each_tell}
-use Rattle.group_protocol.proofs.Sending.{IsSound, leading_backs, led_lawful, prepare_stable, quiet_lawful, sent_lawful, sound, then_pump, offer_goes, promised_same, Proposes, ProposingLaws, pump_goes, stop_goes, goes_on, IsStable, Sender, sender_of, SendingLaws, stable_goes}
-use Rattle.group_protocol.proofs.NodeBackedAsMoreIsSent.{said_still}
+use Rattle.group_protocol.proofs.Sending.{IsSound, led_lawful, quiet_lawful, then_pump, offer_goes, Proposes, ProposingLaws, pump_goes, stop_goes, goes_on, IsStable, Sender, sender_of, SendingLaws, stable_goes}
 use Rattle.group_protocol.proofs.Saving.{promised_still, RecordLaws, record_saved}
 use Rattle.group_protocol.proofs.laws.lawful.rows_are_lawful.Goals as goal
 
@@ -48,7 +48,7 @@ module _ (not_below : (a b : Ballot) → (ballot_lt a b ≡ false) ↔ IsAtMost 
   -- a proposer that isn't dropped is backed, where what was promised is so still
   proposer_kept : (old : Record) (o : Option Proposer) → ((b : Ballot) → HasPromised old b → HasPromised r b)
       → IfSome o (IsLeadingBacked sent me old) → IfSome (unless_passed r.promised o) (IsLeadingBacked sent me r)
-  proposer_kept old o still h = grind (arith, nat_tests, passed_at, promised_same)
+  proposer_kept old o still h = grind (arith, nat_tests, passed_at)
 
 -- ---- an answer of the node's acceptor
 
@@ -132,21 +132,21 @@ returns c sent typed n j (Accept b s v) ranges h delivered =
 -- a Promise
 returns c sent typed n j (Promise b first upto votes) ranges h delivered =
     by_part (IsLawful sent typed n.kept n.learner.learned) n n.proposer j first upto b votes (quiet_lawful h) (λ p e t.
-    let g = sound h ranges p e in
+    let g : IsSound sent n p = grind (arith, nat_tests) in
     let same : p.ballot ≡ b = (c.tests_are_exact.ensures.same p.ballot b).0 t in
     let own = subst (λ (c : Ballot). IsDelivered sent n j (Promise c first upto votes)) (sym same) delivered in
     led_lawful n.offered h (then_pump h (proposing c) (proposer_after_part p j first upto votes)
     (prepare_from b j (asks_on p j first upto)) (part_sound c sent typed n ranges p g j first upto votes own)
     (each_asked (IsStable (sender_of typed n) sent) b j (asks_on p j first upto) (λ s e.
-    rw (← same) (prepare_stable h p g _ s)))))
+    grind (arith, nat_tests)))))
 -- a Submit: what it submits may be offered, where a pump leaves room for it
 returns c sent typed n j (Submit v) ranges h delivered =
     by_offer (IsLawful sent typed n.kept n.learner.learned) n n.proposer v (quiet_lawful h) (λ p e.
-    let g = sound h ranges p e in
+    let g : IsSound sent n p = grind (arith, nat_tests) in
     let laws = proposing c in
-    let pumped = pump_goes laws typed n 16 sent p g.size (leading_backs h p g) in
+    let pumped = pump_goes laws typed n 16 sent p g.size (grind (arith, nat_tests)) in
     let more : Sent = messages_handed_out n.me.node (accepts_of (pump 16 p).made) in
-    let free : IsFree (sent ++ more) v = inr (said_still sent more (Submit v) (j, delivered.is_sent)) in
+    let free : IsFree (sent ++ more) v = inr (j, Contains-append_left sent more _ delivered.is_sent) in
     let now = (pump 16 p).proposer in
     let offered = either (Proposes typed n (sent ++ more)) (leaves_room (pump 16 p))
     (offer_goes laws typed n (sent ++ more) now v free pumped.size pumped.goes.backs)
@@ -154,7 +154,7 @@ returns c sent typed n j (Submit v) ranges h delivered =
     led_lawful _ h (goes_on laws.sending pumped.goes offered.goes))
 -- an Ask: Tells may say what is learned
 returns c sent typed n j (Ask from) ranges h delivered =
-    sent_lawful h (stable_goes (sending c) sent typed n (on_ask n j from).sends h
+    led_lawful n.offered h (stable_goes (sending c) sent typed n (on_ask n j from).sends h
     (each_tell (IsStable (sender_of typed n) sent) n j from (λ s v e. record { may = e; old = tt })))
 -- an Accepted, a Refused and a Tell, which send nothing
 returns c sent typed n j (Accepted b s v) ranges h delivered =

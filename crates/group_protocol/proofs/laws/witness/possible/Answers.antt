@@ -1,5 +1,5 @@
 -- A node that leads, with a key that waits and was offered, a kept vote and a tally.
-use Rattle.std.proofs.Common.{◌≡◌, [], ◌∷◌, ◌++◌, None, Some, refl, subst, arith, rules}
+use Rattle.std.proofs.Common.{◌≡◌, [], ◌∷◌, ◌++◌, None, Some, refl, arith, rules}
 use Rattle.std.specs.FinMap.{empty, get-empty, insert}
 use Rattle.std.specs.Ordering.{nat_cmp}
 use Rattle.std.proofs.lemmas.Bool.Decides.{nat_tests}
@@ -13,8 +13,7 @@ use Rattle.paxos_msg.specs.Keys.{Key}
 use Rattle.paxos_proposer.specs.Backed.{IsProposerBacked}
 use Rattle.paxos_proposer.specs.Proposer.{proposer_after_part, new_proposer, Proposer, proposing}
 use Rattle.paxos_proposer.specs.States.{IsProposerInRange}
-use Rattle.paxos_learner.specs.Backed.{IsLearnerBacked}
-use Rattle.paxos_learner.specs.Learner.{IsLearnerInRange, Hearing, Learner, new_learner, heard_accepted}
+use Rattle.paxos_learner.specs.Learner.{Learner, new_learner, heard_accepted}
 use Rattle.paxos_learner.specs.Tallies.{Tally, begun_tally as heard_of}
 use Rattle.paxos_learner.specs.declared.heard.Heard.TheVariants.{Counted}
 use Rattle.paxos_learner.proofs.OnePlace.{get_here}
@@ -140,7 +139,7 @@ module _ (c : goal.After-window_holds) where
     learner = record {
       size = refl;
       ranges =
-          subst (λ (h : Hearing). IsLearnerInRange h.learner) heard_one
+          rw heard_one at
           (c.values_fit.ensures.accepted (new_learner 3) 2 0 b batch (grind (arith, nat_tests)) (c.values_fit.ensures.begins 3));
       window = c.window_holds.ensures.begins 3;
     };
@@ -156,7 +155,7 @@ module _ (c : goal.After-window_holds) where
     };
     proposer = record { backed = p_backed; promised = refl };
     learner =
-        subst (λ (h : Hearing). IsLearnerBacked sent h.learner) heard_one
+        rw heard_one at
         (c.stays_backed-2.ensures.accepted sent (new_learner 3) 2 0 b batch (c.stays_backed-2.ensures.begins sent 3)
         (5, omega arith, refl));
     waiting = λ k has. has;

@@ -1,6 +1,6 @@
 use Rattle.std.proofs.Common.{◌∙◌, sym, arith}
 use Rattle.paxos_learner.specs.Learner.{front_of}
-use Rattle.group_protocol.proofs.Campaigning.{beginning_fits}
+use Rattle.group_protocol.proofs.PacketsFit.{beginning_fits}
 use Rattle.group_protocol.proofs.protocol.Protocol.begin_ballot.Goals as goal
 
 pub invariant_of-self-2 : goal.invariant_of-self-2

@@ -7,6 +7,6 @@ returns-in_err-go_on-clause-releases g c =
     let failed : c.from_residual.result ≡ Err c.in_err-go_on.field-0.0 = search rules in
     rw failed (
       0 + c.loop.counter,
-      omega (arith, c.waiting-waiting.ensures),
+      omega (arith, c.unreleased-unreleased.ensures),
       halts_at _ _ _ _ _ _ _ c.loop.invariant.done c.in_err-go_on.ensures.happens,
     )

@@ -21,6 +21,7 @@ returns-in_err-unless_memory-clause-hears g c from came =
     rw (← c.self.view_is)
     (refuses_one g.S.Store.kind _ _ _ c.in-Ok.view c.in-Err.fault _ c.self.invariant.0 (search rules)
     done.sends.does.err c.on_message.ensures.responds.sends.progress (c.tell.ensures.passed ∙ came) (search rules)
+    (λ is_store none. done.saves.never none (ap Err is_store))
     (λ honest is_store. done.saves.device honest (ap Err is_store)))
 
 pub returns-in_err-unless_memory-clause-refused : goal.returns-in_err-unless_memory-clause-refused

@@ -1,5 +1,12 @@
-use Rattle.group_world.proofs.WrongGroups.{early_byte, other_byte, past_output, too_short, another_shown}
+use Rattle.std.proofs.Common.{[], ◌∷◌, refl, arith}
+use Rattle.group_node.specs.WrongSteps.{up_written}
 use Rattle.group_world.proofs.laws.nine.wrong_shown.Goals as goal
 
 pub returns : goal.returns
-returns c = assumption (early_byte, other_byte, too_short, past_output, another_shown)
+returns c = record {
+  early_byte = λ h. (h 9 67 _ refl refl).0 refl;
+  other_byte = λ h. grind (arith, (h 9 66 _ refl refl).1 refl);
+  too_short = λ h. omega (arith, (h 9 (up_written (65 ∷ 66 ∷ 67 ∷ []) 2) refl).0);
+  past_output = λ h. omega (arith, (h 9 (up_written (65 ∷ []) 2) refl).0);
+  another_shown = λ h. grind (arith, (h 9 (up_written (65 ∷ 66 ∷ 67 ∷ []) 2) refl).1);
+}

@@ -1,6 +1,6 @@
 use Rattle.std.proofs.Common.{◌∙◌, Err, IfOk, inl, inr, refl, rules, sym}
 use Rattle.std.proofs.lemmas.Result.{IfErr-weaker, IfOk-weaker}
-use Rattle.group_world.specs.Event.{Goes, IsStep, plan_of}
+use Rattle.group_world.specs.Event.{Goes, IsStep}
 use Rattle.group_world.specs.Refusals.{Applies}
 use Rattle.group_world.specs.Group.{World, world_state}
 use Rattle.group_world.specs.Headline.{ConsolesAgree, ConsolesGrow, ConsolesHoldOutput, HasNoGap, LearnedAgree, LearnedChosen, LearnedStays}
@@ -73,12 +73,9 @@ returns c =
     let goes : IfOk r (λ d. Goes c.self.inside.group c.args.event.now d c.perform.new.self) =
     rw (← c.plan.ensures) c.perform.ensures.acts in
     let step : IfOk r (λ d. IsStep (world_state c.self.inside.group) c.args.event.now.act d (world_state c.perform.new.self)) =
-    IfOk-weaker r _ _ (λ d goes. (
-      goes.deed,
-      goes.is_deed,
-      c.deeds_keep_it_sound.ensures.step c.self.inside.group _ _ (plan_of _)
-          goes.deed d c.self.invariant.sound (heard_by _ _ _ goes.deed goes.is_deed) goes.does,
-    )) goes in
+    IfOk-weaker r _ _ (λ d goes.
+    let heard = heard_by c.self.inside.group.group c.self.inside.group.sent _ goes.deed goes.is_deed in
+    (goes.deed, goes.is_deed, c.deeds_keep_it_sound.ensures.step _ _ _ _ goes.deed d c.self.invariant.sound heard goes.does)) goes in
     let k = claims (goal.at.returns c).After-refusal _ _ c.self.invariant (holds c)
     (answer_grows c.self.inside.group _ _ r step c.perform.ensures.err) in
     let applies : Applies c.self.inside.group c.args.event.now r c.perform.new.self = record {

@@ -1,5 +1,4 @@
-use Rattle.std.proofs.Common.{◌≡◌, ◌%◌, arith}
-use Rattle.std.proofs.Math.Nat.{mod-lt}
+use Rattle.std.proofs.Common.{◌≡◌, ◌%◌, arith, mod-lt}
 use Rattle.paxos_msg.specs.declared.message.Group.{Group}
 use Rattle.group_world.proofs.world.World.new.Goals as goal
 

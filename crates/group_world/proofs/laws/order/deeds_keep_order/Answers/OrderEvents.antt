@@ -1,13 +1,10 @@
 -- Each kind of deed keeps a world ordered, so any deed does; and the world before all events is
 -- ordered.
-use Rattle.std.proofs.Common.{◌≡◌, ◌∙◌, ℕ, ◌+◌, ◌≤◌, List, [], ◌∷◌, ◌++◌, take, Option, Some, None, IfSome, refl, sym, ap, subst, inl, inr, arith, Bool, if◌then◌else◌, ◌-◌, slice_set}
+use Rattle.std.proofs.Common.{◌≡◌, ◌∙◌, ℕ, ◌+◌, ◌≤◌, List, [], ◌∷◌, ◌++◌, take, Option, Some, None, IfSome, refl, sym, ap, subst, inl, inr, arith, Bool, if◌then◌else◌, ◌-◌, slice_set, append-nil, length-append, Contains, nat_cmp}
 use Rattle.std.proofs.lemmas.Bool.Decides.{nat_tests}
-use Rattle.std.proofs.lemmas.List.{append-nil, length-append}
 use Rattle.std.proofs.lemmas.List.Concat.{flat_map-append}
 use Rattle.std.proofs.lemmas.List.Elements.{All-contains, Contains-append_cases, Contains-append_left, Contains-append_right, filter_map-append, Contains-get_or, Contains-push_cases}
-use Rattle.std.specs.List.{Contains}
 use Rattle.std.specs.FinMap.{FinMap}
-use Rattle.std.specs.Ordering.{nat_cmp}
 use Rattle.paxos_learner.specs.Learner.{HasLearnedMore}
 use Rattle.paxos_msg.specs.declared.message.Body.TheVariants.{Submit}
 use Rattle.paxos_msg.specs.declared.value.Value.{Value}
@@ -32,12 +29,10 @@ use Rattle.group_world.proofs.OrderRows.{first_due, fresh_row, new_name, parted_
 use Rattle.group_world.proofs.SoundWorldsAgree.{front_chosen, next_of, FrontLaws}
 use Rattle.group_world.proofs.WorldAsGroup.{running, each_changed}
 use Rattle.group_world.specs.declared.event.Done.{Done}
-use Rattle.group_world.specs.Deeds.{DoesDeed, Left}
+use Rattle.group_world.specs.Deeds.{DoesDeed, EndsCall, Left}
 use Rattle.group_world.specs.Event.{DoesAt, world_after}
 use Rattle.group_world.proofs.CallLeaves.{Leaves, LeavesBy, idle_leads, leaves_so, quiet_leads, world_after_call, world_after_fall}
 use Rattle.group_node.specs.Deeds as deed
-use Rattle.group_protocol.specs.Protocol.{on_message}
-use Rattle.group_protocol.specs.Tick.{on_tick}
 use Rattle.group_node.specs.Deeds.{Deed}
 use Rattle.group_world.proofs.CallCases.{start_cases}
 use Rattle.std.proofs.lemmas.List.Quantifiers.{all_pairs_push}
@@ -73,10 +68,8 @@ module _ (typed : List Key) (members : List Member) (h : AreTypedInOrder typed m
     once =
         all_pairs_push (λ (x y : Key). ¬ HaveOneName x y) typed key h.once
         (λ k d below. fresh _ (Contains-get_or typed k d below));
-    past = λ k x among at. elim (Contains-push_cases typed key k among) [
-      | inl before ↦ still_past k x (λ y. h.past k y before) at
-      | inr e ↦ still_past k x (λ y was. grind arith) at
-    ];
+    past = λ k x among.
+        still_past k x (λ y was. grind (arith, Contains-push_cases typed key k among, h.past k y));
     nodes = each_changed members i m new there (λ j x. IfSome x.node _) own
         (λ j other ne found. IfSome_then other.node (h.nodes j other found) (λ q row. record {
           start = row.start;
@@ -238,61 +231,54 @@ module _ (laws : Laws) {w : World} (sound : IsSound w) (h : IsOrdered w) {i : �
 
 -- ---- any deed
 
-module _ (laws : Laws) {w v : World} (plan : Option Bool) (d : Done) (sound : IsSound w) (after : IsSound v) (h : IsOrdered w) where
-  module _ (i : ℕ) {m : Member} (there : member_at w.members i ≡ Some m) where
-    -- a call that saves, by the failure of its save, which leaves the changed record or the old one
-    saves_by : (made : Response) (progress : Progress) (keys : List Value) → m.kept.starts ≤ made.node.kept.starts
-        → (v ≡ world_after_call w i made m.console progress keys → IsOrdered v) → (o : Option Bool)
-        → LeavesBy w i m progress (save_outcome m.kept made keys o) d v → IsOrdered v
-    saves_by made progress keys more went None (answer, e) = went e
-    saves_by made progress keys more went (Some is_kept) (answer, e) =
-        rw e (fallen_world laws sound h i there (if is_kept then made.node.kept else m.kept) (grind (arith, nat_tests)))
+module _ (laws : Laws) {w v : World} (plan : Option Bool) (d : Done) (sound : IsSound w) (after : IsSound v) (h : IsOrdered w) (i : ℕ)
+    (m : Member) (there : member_at w.members i ≡ Some m) (left : Left) (answers : d ≡ left.answer) (leads : v ≡ world_after w i left) where
+  -- a call that saves, by the failure of its save, which leaves the changed record or the old one
+  saves_by : (made : Response) (progress : Progress) (keys : List Value) → m.kept.starts ≤ made.node.kept.starts
+      → (v ≡ world_after_call w i made m.console progress keys → IsOrdered v) → (o : Option Bool)
+      → LeavesBy w i m progress (save_outcome m.kept made keys o) d v → IsOrdered v
+  saves_by made progress keys more went None (answer, e) = went e
+  saves_by made progress keys more went (Some is_kept) (answer, e) =
+      rw e (fallen_world laws sound h i there (if is_kept then made.node.kept else m.kept) (grind (arith, nat_tests)))
 
-  module _ {i : ℕ} {m : Member} {q : Running} (up : IsUp w i m q) where
+  module _ {q : Running} (up : m.node ≡ Some q) where
+    is_up : IsUp w i m q
+    is_up = record { there = there; up = up }
+
     -- a call that submits this at most
     goes_by : {o : Option Value} (made : Response) → Goes q.known o made → MaySubmit w i o
-        → Leaves w i m q.progress plan (Makes made []) d v → IsOrdered v
-    goes_by made goes may leaves =
-        saves_by i up.there made q.progress [] (goes_starts laws sound h up goes)
-        (λ e. rw e (goes_world laws sound h up m.console q.progress goes (rw e at after) may)) _ leaves
+        → EndsCall (me_of w i) m q.progress plan (Makes made []) left → IsOrdered v
+    goes_by made goes may ends =
+        saves_by made q.progress [] (goes_starts laws sound h is_up goes)
+        (λ e. rw e (goes_world laws sound h is_up m.console q.progress goes (rw e at after) may)) _
+        (leaves_so w i m there q.progress plan (Makes made []) ends answers leads)
 
     -- a release, if a byte waits
     released_by : (o : Option ℕ) → IsOrdered (with_member w i (member_after_release m q o))
-    released_by None = put_world laws sound h i up.there m (omega arith) (h.keys.nodes i m up.there)
-    released_by (Some byte) = put_world laws sound h i up.there _ (omega arith) (own laws sound h up)
+    released_by None = put_world laws sound h i there m (omega arith) (h.keys.nodes i m there)
+    released_by (Some byte) = put_world laws sound h i there _ (omega arith) (own laws sound h is_up)
 
-  module _ (i : ℕ) (m : Member) (there : member_at w.members i ≡ Some m) (left : Left) (answers : d ≡ left.answer)
-      (leads : v ≡ world_after w i left) where
-    deed_by : (e : Deed) → DoesDeed w.program (me_of w i) m plan e left → IsOrdered v
-    deed_by deed.Idle is = rw (leads ∙ idle_leads w i m there is) h
-    deed_by (deed.Start r) (down, over, ends) =
-        start_cases (λ call. Leaves w i m (no_progress w.program) plan call d v → IsOrdered v) (λ f leaves. rw leaves.1 h) _ m.kept
-        (λ other. saves_by i there (on_start (me_of w i) m.kept) _ [] (omega arith)
-        (λ e. rw e (started_world laws sound h i there m.console (no_progress w.program) (rw e at after)))
-        (failing (on_start (me_of w i) m.kept).saves plan)) (leaves_so w i m there _ plan _ (rw over at ends) answers leads)
-    deed_by (deed.Hear message) (q, up, ends) =
-        let made = on_message q.known message.sender message.body in
-        goes_by (record { there = there; up = up }) made (message_goes laws q.known message.sender message.body) (no_submit w i)
-        (leaves_so w i m there q.progress plan (Makes made []) ends answers leads)
-    deed_by (deed.Press byte) (q, up, low, ends) =
-        let up_so : IsUp w i m q = record { there = there; up = up } in
-        let leaves = leaves_so w i m there _ plan _ ends answers leads in
-        grind (arith, nat_tests, pressed_world laws sound h up_so byte m.console q.progress)
-    deed_by deed.Campaign (q, up, ends) =
-        let up_so : IsUp w i m q = record { there = there; up = up } in
-        grind (arith, goes_by up_so _ (campaign_goes q.known) (no_submit w i), leaves_so w i m there _ plan _ ends answers leads)
-    deed_by deed.Tick (q, up, ends) =
-        let up_so : IsUp w i m q = record { there = there; up = up } in
-        goes_by up_so (on_tick q.known) (tick_goes q.known) (batch_may laws sound h up_so)
-        (leaves_so w i m there q.progress plan (Makes (on_tick q.known) []) ends answers leads)
-    deed_by (deed.Run steps) (q, up, runs, is) =
-        rw (leads ∙ quiet_leads w i m there is, runs.new_is)
-        (put_world laws sound h i there (at_progress m q runs.progress) (omega arith)
-        (own laws sound h (record { there = there; up = up })))
-    deed_by deed.Release (q, up, is) =
-        rw (leads ∙ quiet_leads w i m there is) (released_by (record { there = there; up = up }) (next_of q))
-    deed_by deed.Crash (q, up, is) =
-        rw (leads ∙ quiet_leads w i m there is) (fallen_world laws sound h i there m.kept (omega arith))
+  deed_by : (e : Deed) → DoesDeed w.program (me_of w i) m plan e left → IsOrdered v
+  deed_by deed.Idle is = rw (leads ∙ idle_leads w i m there is) h
+  deed_by (deed.Start r) (down, over, ends) =
+      start_cases (λ call. Leaves w i m (no_progress w.program) plan call d v → IsOrdered v) (λ f leaves. rw leaves.1 h) _ m.kept
+      (λ other. saves_by (on_start (me_of w i) m.kept) _ [] (omega arith)
+      (λ e. rw e (started_world laws sound h i there m.console (no_progress w.program) (rw e at after)))
+      (failing (on_start (me_of w i) m.kept).saves plan)) (leaves_so w i m there _ plan _ (rw over at ends) answers leads)
+  deed_by (deed.Hear message) (q, up, ends) =
+      goes_by up _ (message_goes laws q.known message.sender message.body) (no_submit w i) ends
+  deed_by (deed.Press byte) (q, up, low, ends) =
+      let leaves = leaves_so w i m there _ plan _ ends answers leads in
+      grind (arith, nat_tests, pressed_world laws sound h (is_up up) byte m.console q.progress)
+  deed_by deed.Campaign (q, up, ends) =
+      grind (arith, goes_by up _ (campaign_goes q.known) (no_submit w i), leaves_so w i m there _ plan _ ends answers leads)
+  deed_by deed.Tick (q, up, ends) = goes_by up _ (tick_goes q.known) (batch_may laws sound h (is_up up)) ends
+  deed_by (deed.Run steps) (q, up, runs, is) =
+      rw (leads ∙ quiet_leads w i m there is, runs.new_is)
+      (put_world laws sound h i there (at_progress m q runs.progress) (omega arith) (own laws sound h (is_up up)))
+  deed_by deed.Release (q, up, is) = rw (leads ∙ quiet_leads w i m there is) (released_by up (next_of q))
+  deed_by deed.Crash (q, up, is) =
+      rw (leads ∙ quiet_leads w i m there is) (fallen_world laws sound h i there m.kept (omega arith))
 
 pub deeds_ordered : Laws → (w v : World) (i : ℕ) (plan : Option Bool) (e : Deed) (d : Done) → IsSound w → IsSound v
     → IsOrdered w → DoesAt w i plan e d v → IsOrdered v

@@ -1,19 +1,17 @@
 -- A node's row after each of its calls: its start, its serials, the keys that wait and what it has
 -- learned; and the Submits that the calls send, as packets and as messages of the group.
-use Rattle.std.proofs.Common.{All, ◌≡◌, ◌∙◌, ℕ, suc, ◌+◌, ◌≤◌, List, [], ◌∷◌, length, Option, Some, None, refl, sym, ap, arith, get_or, subst, ◌++◌}
+use Rattle.std.proofs.Common.{All, ◌≡◌, ◌∙◌, ℕ, suc, ◌+◌, ◌≤◌, List, [], ◌∷◌, length, Option, Some, None, refl, sym, ap, arith, get_or, subst, ◌++◌, nat_cmp, length-drop}
 use Rattle.std.proofs.lemmas.Bool.Decides.{nat_tests}
 use Rattle.paxos_proposer.specs.Proposer.{Proposer}
-use Rattle.group_protocol.specs.ProposerRows.{prepare_from, on_campaign}
+use Rattle.group_protocol.specs.ProposerRows.{on_campaign}
 use Rattle.std.proofs.lemmas.List.Elements.{All-map, All-take, All-contains, All-append, All-cons, All-nil}
 use Rattle.std.specs.FinMap.{FinMap}
-use Rattle.std.specs.Ordering.{nat_cmp}
 use Rattle.std.specs.List.{range_with_len, Contains, filter_map}
 use Rattle.group_protocol.specs.Known.{Response, next_serial, Known}
 use Rattle.group_protocol.specs.LearnerRows.{tell_packet}
 use Rattle.group_protocol.specs.Tick.{accept_again, accepts_again, asks_again, prepares_again, asks, on_tick, ticked}
 use Rattle.group_protocol.specs.Packets.{Datagram, Packet, datagram_of, datagrams_of}
 use Rattle.std.proofs.lemmas.Option.{same_Some}
-use Rattle.std.proofs.lemmas.List.{length-drop}
 use Rattle.paxos_msg.specs.declared.ballot.Ballot.{Ballot}
 use Rattle.paxos_msg.specs.declared.message.Body.TheVariants.{Accept, Accepted, Ask, Prepare, Promise, Refused, Submit, Tell}
 use Rattle.paxos_msg.specs.declared.value.Value.{Value}
@@ -25,7 +23,7 @@ use Rattle.paxos_learner.specs.Input.{front_values, keys_in_order}
 use Rattle.group_protocol.specs.declared.packet.To.{To}
 use Rattle.group_protocol.specs.Protocol.{on_message, row}
 use Rattle.group_protocol.specs.AcceptorRows.{answering}
-use Rattle.group_protocol.specs.WaitingKeys.{batch_of, count_read, waiting_keys, without_read}
+use Rattle.group_protocol.specs.WaitingKeys.{batch_of, count_read, waiting_keys}
 use Rattle.group_protocol.specs.Pump.{pump, accepts_of}
 use Rattle.group_world.specs.Ordered.{IsFirstUnread}
 use Rattle.group_world.proofs.OrderRows.{IsParted}
@@ -85,10 +83,6 @@ module _ (o : Option Value) where
   again_asked learned p =
       All-take (IsPacketAsked o) 16 _ (all_images (IsPacketAsked o) (accept_again learned p) _ (λ s among. grind (arith, nat_tests)))
 
-  -- the Prepare after a part of a promise
-  prepare_asked : (b : Ballot) (j : ℕ) (place : Option ℕ) → AreAsked o (prepare_from b j place)
-  prepare_asked b j place = grind (arith, nat_tests)
-
 -- of the packets with which a tick ends only the batch is a Submit
 asks_asked : (n : Known) → AreAsked (batch_of n n.waiting) (asks n)
 asks_asked n = grind (arith, nat_tests)
@@ -146,7 +140,7 @@ row_stays : Laws → (n : Known) (j : ℕ) (body : Body) → Stays n (row n j bo
 row_stays laws n j (Prepare b from) =
     answering_stays n _ (prepare_of n.kept b from) (grind (arith, nat_tests)) (grind (arith, nat_tests))
 row_stays laws n j (Promise b first upto votes) =
-    grind (arith, nat_tests, quiet_stays, same_learned n, none_asked None, both_asked None, prepare_asked None, accepts_asked None)
+    grind (arith, nat_tests, quiet_stays, same_learned n, none_asked None, both_asked None, accepts_asked None)
 row_stays laws n j (Accept b s v) =
     answering_stays n _ (accept_of n.kept b s v) (grind (arith, nat_tests)) (grind (arith, nat_tests))
 row_stays laws n j (Accepted b s v) = quiet_stays n (laws.learned_stays.ensures.accepted n.learner j s b v) (none_asked None)
@@ -165,11 +159,6 @@ keys_many : (node start serial : ℕ) (bytes : List ℕ) → length (keys_from n
 keys_many node start serial [] = refl
 keys_many node start serial (byte ∷ bytes) = ap suc (keys_many node start (serial + 1) bytes)
 
--- so the next serial stays
-gone_next : (n : Known) → next_serial (without_read n) ≡ next_serial n
-gone_next n =
-    grind (arith, count_few (read_of n) (waiting_keys n), keys_many n.me.node n.kept.starts n.first n.waiting, length-drop)
-
 first_by : (read keys : List Key) → ((k : Key) (ks : List Key) → keys ≡ k ∷ ks → ¬ Contains read k) → IsFirstUnread read keys
 first_by read keys h = grind (arith, nat_tests, h)
 
@@ -179,9 +168,11 @@ message_goes laws n j body =
     let stays = row_stays laws n j body in
     let at : Known = (row n j body).node in
     let parts = laws.waiting_keys_are_a_row.ensures.gone at in
+    let many = keys_many at.me.node at.kept.starts at.first at.waiting in
     record {
       starts = stays.starts;
-      next = gone_next at ∙ stays.next;
+      -- so the next serial stays
+      next = grind (arith, count_few (read_of at) (waiting_keys at), length-drop, stays.next);
       learns = stays.learns;
       parted =
           λ first. record {

@@ -1,7 +1,6 @@
 -- A change of one node keeps the world sound: a call that it makes, a failed save, a crash, a run
 -- and a release. What holds of the other nodes still holds after a node has sent and typed more.
-use Rattle.std.proofs.Common.{◌≡◌, ◌∙◌, ℕ, ◌-◌, Bool, true, false, if◌then◌else◌, Contains, List, [], ◌∷◌, None, Some, inl, inr, refl, subst, arith, ◌+◌, ◌≤◌, length, slice_get, Option, ◌++◌, flat_map, sym, ◌≢◌, append-nil, append_assoc}
-use Rattle.std.proofs.lemmas.List.{length-set, length-drop}
+use Rattle.std.proofs.Common.{◌≡◌, ◌∙◌, ℕ, ◌-◌, Bool, true, false, if◌then◌else◌, Contains, List, [], ◌∷◌, None, Some, inl, inr, refl, subst, arith, ◌+◌, ◌≤◌, length, slice_get, Option, ◌++◌, flat_map, sym, ◌≢◌, append-nil, append_assoc, length-set, length-drop, nat_cmp}
 use Rattle.std.proofs.lemmas.List.Elements.{Contains-push, All-append, Contains-append_left}
 use Rattle.paxos_msg.specs.declared.value.Value.{Value}
 use Rattle.paxos_msg.specs.Batches.{Change, Grew, Sent, Body, MaySend, MaySendAll, Record}
@@ -21,7 +20,6 @@ use Rattle.group_node.specs.States.{input}
 use Rattle.group_world.proofs.SoundWorldsAgree.{PlayLaws, front_chosen, offer_fits, next_of, next_written, same_or_prefix, shown_then, written}
 use Rattle.std.proofs.lemmas.Grind.{flat_map-append}
 use Rattle.std.specs.FinMap.{FinMap}
-use Rattle.std.specs.Ordering.{nat_cmp}
 use Rattle.paxos_msg.specs.Keys.{Key, keys_of}
 use Rattle.group_protocol.specs.Ranges.{AllFit, IsInRange}
 use Rattle.group_protocol.specs.Steps.{messages_handed_out, IsLawful}
@@ -36,11 +34,6 @@ abbrev pub Laws : Type 0
 Laws = goal.After-prefixes_are_ordered
 
 -- ---- the other nodes
-
--- the console of a node
-shown_still : Laws → {p : Parts} {size : ℕ} {sent : Sent} {console : List ℕ} (more : Sent) → IsShown p size sent console
-    → IsShown p size (sent ++ more) console
-shown_still laws {size = size} {sent = sent} more h = grind arith
 
 -- all that node `j` sends in a call, message by message
 sent_then : (P : Sent → Type 0) (size : ℕ) (known : List Key) (learned : ℕ → Option Value) (j : ℕ) (r : Record)
@@ -75,7 +68,7 @@ module _ (laws : Laws) (p : Parts) (me : Me) (sent : Sent) (typed keys known : L
         sent_then _ me.group.size known learned j r
         (λ all body. laws.others_keep_it_backed.ensures.sends_record all known me.node me.group.size j learned m.kept r body ne)
         bodies sent may h.backed;
-    shown = shown_still laws _ h.shown;
+    shown = grind (arith, h.shown);
     running = IfSome_then m.node h.running (running_then m.kept m.console);
   }
 
@@ -115,7 +108,7 @@ module _ (laws : Laws) {w : World} (h : IsSound w) (i : ℕ) {m : Member} (there
     module _ (may : MayMake w i m made progress keys) where
       own_sound : IsMemberSound w.program (me_of w i) more_sent more_typed new
       own_sound =
-          let shown = shown_still laws (messages_handed_out i made.sends) (h.members i m there).shown in
+          let shown : IsShown w.program w.group.size more_sent m.console = grind (arith, (h.members i m there).shown) in
           let learned : IsLearnedChosen w.group.size more_sent made.node.learner.learned = record {
             chosen = λ s v e. laws.sent_only_grows.ensures.chosen w.group.size s _ _ v
                 (laws.lawful_calls_go_on.ensures.learned _ more_typed m.kept may.before made h.told may.ranges may.lawful s v e);

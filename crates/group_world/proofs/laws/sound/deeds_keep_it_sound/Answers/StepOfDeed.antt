@@ -2,7 +2,6 @@
 use Rattle.std.proofs.Common.{Contains, ◌≡◌, ◌∙◌, ℕ, ◌<◌, ◌++◌, List, [], flat_map, slice_get, Some, refl, sym, ap, subst, append-nil, arith, ◌≢◌, Bool, if◌then◌else◌, Option, None, ◌+◌, ◌-◌, ◌≤◌}
 use Rattle.group_protocol.specs.Known.{Response, on_start}
 use Rattle.group_world.proofs.CallCases.{campaign_cases, press_cases, start_cases}
-use Rattle.group_world.proofs.SendingCalls.{tick_rests}
 use Rattle.std.proofs.lemmas.Bool.Decides.{nat_tests}
 use Rattle.group_world.proofs.OrderLists.{of_filter_map}
 use Rattle.std.proofs.lemmas.Option.{same_Some}
@@ -33,7 +32,7 @@ use Rattle.group_node.specs.States.{input}
 use Rattle.group_node.specs.Deeds as deed
 use Rattle.group_node.specs.Deeds.{Deed}
 use Rattle.group_node.specs.World as group
-use Rattle.group_node.specs.World.{Sits, WorldStep, after_call, with_seat, ChangesOnly, WorldState}
+use Rattle.group_node.specs.World.{IsSeated, Sits, WorldStep, after_call, with_seat, ChangesOnly, WorldState}
 use Rattle.group_world.specs.declared.event.Done.{Done}
 use Rattle.group_world.specs.declared.event.Done.TheVariants.{Applied}
 use Rattle.group_world.specs.Deeds.{DoesDeed, EndsCall, Left, quietly}
@@ -114,6 +113,9 @@ module _ (laws : Laws) {w : World} (h : IsSound w) {i : ℕ} {m : Member} {q : R
   sits =
       grind (arith, sound.me_is, sound.kept_is)
 
+  seated : IsSeated s q.known configuration q.progress.released m.console
+  seated = record { sits = sits; ranges = sound.ranges; backs = sound.backs }
+
   -- the same step, at the node's own number
   at_number : (P : ℕ → Type 0) → P q.known.me.node → P i
   at_number P = subst (λ (me : Me). P me.node) sound.me_is
@@ -149,7 +151,7 @@ module _ (laws : Laws) {w : World} (h : IsSound w) {i : ℕ} {m : Member} {q : R
         laws.what_goes_out_fits.ensures.typed q.known byte ranges low (omega (arith, ranges.waiting.few, ne))
             (omega (arith, ranges.waiting.fits, other)),
       )
-      (laws.calls_are_deeds.ensures.press s q.known byte _ configuration m.console sits sound.ranges sound.backs)
+      (laws.calls_are_deeds.ensures.press s q.known byte _ configuration m.console seated)
       (λ saves. absurd (saves refl)))
 
   campaign_steps : StepsCall w deed.Campaign i m q.progress (call_of_campaign q.known)
@@ -159,16 +161,17 @@ module _ (laws : Laws) {w : World} (h : IsSound w) {i : ℕ} {m : Member} {q : R
       call_steps deed.Campaign _ []
       (alone (laws.calls_are_lawful.ensures.campaign _ _ q.known sound.ranges sound.backs)
       (laws.what_goes_out_fits.ensures.campaign q.known sound.ranges (omega (arith, low)) (omega (arith, within, other))))
-      (laws.calls_are_deeds.ensures.campaign s q.known _ configuration m.console sits sound.ranges sound.backs)
-      (λ saves left. laws.calls_are_deeds.ensures.falls_campaign s q.known _ left configuration m.console sits sound.ranges sound.backs))
+      (laws.calls_are_deeds.ensures.campaign s q.known _ configuration m.console seated)
+      (λ saves left. laws.calls_are_deeds.ensures.falls_campaign s q.known _ left configuration m.console seated))
 
   tick_steps : StepsCall w deed.Tick i m q.progress (Makes (on_tick q.known) [])
   tick_steps =
+      let none : (on_tick q.known).saves ≡ None = grind (arith, nat_tests) in
       call_steps deed.Tick _ []
       (alone (laws.calls_are_lawful.ensures.tick _ _ q.known sound.ranges sound.backs)
       (laws.what_goes_out_fits.ensures.tick q.known sound.ranges))
-      (laws.calls_are_deeds.ensures.tick s q.known _ configuration m.console sits sound.ranges sound.backs)
-      (λ saves. absurd (saves (tick_rests q.known).1))
+      (laws.calls_are_deeds.ensures.tick s q.known _ configuration m.console seated)
+      (λ saves. absurd (saves none))
 
   hear_steps : (message : Msg) → Contains (messages_in w.group w.sent) message
       → StepsCall w (deed.Hear message) i m q.progress (Makes (on_message q.known message.sender message.body) [])
@@ -178,10 +181,9 @@ module _ (laws : Laws) {w : World} (h : IsSound w) {i : ℕ} {m : Member} {q : R
       (alone (laws.calls_are_lawful.ensures.message _ _ q.known _ message.body sound.ranges sound.backs
       (record { is_sent = heard; fits = fits }))
       (laws.what_goes_out_fits.ensures.message q.known _ message.body sound.ranges fits))
-      (laws.calls_are_deeds.ensures.hear s q.known _ _ message.body configuration m.console sits sound.ranges sound.backs fits heard)
+      (laws.calls_are_deeds.ensures.hear s q.known _ _ message.body configuration m.console seated fits heard)
       (λ saves left.
-      laws.calls_are_deeds.ensures.falls_hearing s q.known _ _ message.body left configuration m.console sits sound.ranges
-      sound.backs fits heard saves)
+      laws.calls_are_deeds.ensures.falls_hearing s q.known _ _ message.body left configuration m.console seated fits heard saves)
 
   -- nothing changes but at node `i`, which is now this
   only_here : (new : Member) → ChangesOnly s (world_state (with_member w i new)) i [] []
@@ -216,11 +218,11 @@ module _ (laws : Laws) {w : World} (h : IsSound w) {i : ℕ} {m : Member} {q : R
       let count : progress.steps ≡ q.progress.steps + more = omega (arith, runs.more) in
       let program = ap (λ (y : Progress). y.program) runs.rest ∙ sound.program in
       let few : more ≤ most = omega (arith, laws.output_is_a_deed.ensures.few x most q.progress progress ran runs) in
-      let seated = rw sound.program at sits in
+      let here = rw sound.program at sits in
       let leads = rw (count, program) at replay.made in
       let step = at_number (λ j. WorldStep s j (deed.Run most) (with_seat s j (group.seat_of q.known
       (after_steps w.program x (q.progress.steps + more)) q.progress.released m.console)))
-      (laws.output_is_a_deed.ensures.run s q.known most _ more _ m.console seated few leads) in
+      (laws.output_is_a_deed.ensures.run s q.known most _ more _ m.console here few leads) in
       let released = ap (λ (y : Progress). y.released) runs.rest in
       let seat : seat_of_member (Some (at_progress m q progress))
       ≡ group.seat_of q.known (after_steps w.program x (q.progress.steps + more)) q.progress.released m.console =
