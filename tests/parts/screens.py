@@ -1,9 +1,12 @@
 """A command in tmux, for tests/group_follow and tests/walk."""
 
+import fcntl
 import os
 import re
 import shlex
+import struct
 import subprocess
+import termios
 
 from .files import bytes_of
 from .group import await_that
@@ -37,6 +40,23 @@ class Screen:
             await_that(is_shown, f"the screen shows {patterns}")
         except Broken as broken:
             raise Broken(f"{broken}, and has\n{self.shown()}")
+
+    def process(self):
+        """The command's process."""
+        shell = self.tmux("display-message", "-p", "#{pane_pid}").stdout.decode().strip()
+        return int(bytes_of(f"/proc/{shell}/task/{shell}/children").split()[0])
+
+    def resize(self, columns, lines):
+        """Gives the window this size, and waits until the command's terminal has it."""
+        self.tmux("resize-window", "-x", str(columns), "-y", str(lines))
+        path = self.tmux("display-message", "-p", "#{pane_tty}").stdout.decode().strip()
+
+        def is_resized():
+            with open(path) as terminal:
+                size = fcntl.ioctl(terminal, termios.TIOCGWINSZ, bytes(8))
+            return struct.unpack("HHHH", size)[:2] == (lines, columns)
+
+        await_that(is_resized, f"the terminal has {columns} columns and {lines} lines")
 
     def await_end(self):
         def is_ended():

@@ -48,6 +48,9 @@ def draw(window, group):
             window.addnstr(row, 0, line, width - 1, curses.A_BOLD if row == 0 else 0)
         except curses.error:
             pass  # The window has just become smaller.
+    # All of it is written anew. Of a terminal that was smaller for a moment curses may never hear,
+    # and lines that it takes for shown are gone.
+    window.redrawwin()
     window.refresh()
 
 
