@@ -6,7 +6,7 @@ use command_words::{Asked, NodeWords};
 use group_sim::{ScriptRefusal, sim_file};
 use machine_run::{Counting, IoFault, MachineRefusal, check_file, list_file, run_file};
 use net_run::{NetPlan, net_file};
-use node_run::{NodePlan, node_file};
+use node_run::{NodePlan, RunPlan, node_file};
 use paxos_msg::Group;
 use std::io::{BufWriter, Read, Write};
 use std::net::Net;
@@ -42,6 +42,19 @@ fn sim<H: Files + AllocGlobal, W: Write>(
     Ok(done?)
 }
 
+/// Runs a code file, one byte after another.
+fn run<H: Files + AllocGlobal, R: Read, W: Write>(
+    rt: &H,
+    file: &str,
+    steps: u32,
+    reader: &mut R,
+    writer: &mut W,
+) -> Conclusion {
+    let mut reader = Counting::new(reader);
+    let mut writer = Counting::new(writer);
+    Conclusion::of_run(run_file(rt, file, steps, &mut reader, &mut writer))
+}
+
 /// Runs the node of a plan.
 fn run_plan<H: Files + Net + Clock + Env + AllocGlobal + Copy + Drop, R: Read, W: Write, E: Write>(
     rt: &H,
@@ -65,10 +78,12 @@ fn plan_of<'a>(words: &'a NodeWords<'a>, trace: Option<&'a str>, is_logged: bool
             session: words.session,
         },
         record: words.record,
-        turns: words.turns,
         addresses: words.addresses.as_slice(),
-        seen: words.seen,
-        campaigns: words.campaigns,
+        run: RunPlan {
+            turns: words.turns,
+            seen: words.seen,
+            campaigns: words.campaigns,
+        },
         keys: words.keys,
         trace,
         is_logged,
@@ -98,7 +113,7 @@ pub fn perform<
     match *asked {
         Asked::Check { file } => Conclusion::of_done(check_file(rt, file, writer)),
         Asked::List { file } => Conclusion::of_done(list_file(rt, file, writer)),
-        Asked::Run { file, steps } => Conclusion::of_run(run_file(rt, file, steps, reader, writer)),
+        Asked::Run { file, steps } => run(rt, file, steps, reader, writer),
         Asked::Show {
             size,
             session,

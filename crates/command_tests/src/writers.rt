@@ -1,7 +1,7 @@
 //! Commands over a writer that takes nothing, or that cannot be flushed.
 use command_words::{DEFAULT_STEPS, NotAsked, asked_of};
 use group_sim::{ScriptRefusal, sim_file};
-use machine_run::{IoFault, MachineRefusal, list_file, run_built_in, run_file};
+use machine_run::{Counting, IoFault, MachineRefusal, list_file, run_built_in, run_file};
 use std::alloc::{AllocError, Global};
 use std::fs;
 use std::io::{self, ErrorKind, Write};
@@ -76,9 +76,14 @@ fn is_refused(rt: &HostRuntime, work: Work, output: &mut Sink) -> Result<bool, A
     let refusal = match work {
         Work::BuiltIn => run_built_in(rt.alloc(), DEFAULT_STEPS, output).err(),
         Work::Run => {
-            let mut input: &[u8] = b"X";
-            let ran = run_file(rt, PROGRAM, DEFAULT_STEPS, &mut input, output);
-            if input.is_empty() { None } else { ran.err() }
+            let mut input = Counting::new(&b"X"[..]);
+            let mut output = Counting::new(output);
+            let ran = run_file(rt, PROGRAM, DEFAULT_STEPS, &mut input, &mut output);
+            if input.inner.is_empty() {
+                None
+            } else {
+                ran.err()
+            }
         }
         Work::List => list_file(rt, PROGRAM, output).err(),
         Work::Sim => match sim_file(rt, PROGRAM, SCRIPT, output) {

@@ -6,7 +6,7 @@ use crate::role::Role;
 use crate::sends::Sends;
 use group_protocol::Protocol;
 use paxos_acceptor::Store;
-use paxos_msg::{Ballot, Group};
+use paxos_msg::Group;
 use pcode_machine::End;
 use std::alloc::Global;
 use std::io::Write;
@@ -82,7 +82,7 @@ impl<'a, H: Clock, E: Write> Log<'a, H, E> {
     }
 
     /// Notes that the node has started, and over which record.
-    pub fn started<S: Store>(&mut self, node: &Protocol<S>, group: Group) {
+    pub fn note_started<S: Store>(&mut self, node: &Protocol<S>, group: Group) {
         let record = node.record();
         if record.starts == 1 && record.promised.is_none() {
             return self.note(&Note::StartedNew(group));
@@ -103,7 +103,7 @@ impl<'a, H: Clock, E: Write> Log<'a, H, E> {
         }
         let next = self.role.next(node.ballot(), node.is_leading());
         if let Some(ballot) = self.role.lost_ballot(next) {
-            let by = greatest(node.refusing_ballot(), node.record().promised);
+            let by = node.refusing_ballot().max(node.record().promised);
             self.note(&Note::BallotRefused { ballot, by });
         }
         if let Some(ballot) = self.role.new_ballot(next) {
@@ -129,7 +129,7 @@ impl<'a, H: Clock, E: Write> Log<'a, H, E> {
 
     /// Notes the end of the program that a run has come to, if it has, for the first time in this
     /// process.
-    pub fn ran(&mut self, reached: Option<End>) {
+    pub fn note_program_end(&mut self, reached: Option<End>) {
         if let Some(end) = end_to_note(self.has_ended, reached) {
             self.note(&Note::Program(end));
             self.has_ended = true;
@@ -152,7 +152,7 @@ impl<'a, H: Clock, E: Write> Log<'a, H, E> {
 
     /// Notes dropped datagrams, and that none could be sent, at most once a second. Returns true if
     /// it was time for that; then they are to be counted from 0 again.
-    pub fn counted(&mut self, drops: &Drops, sends: &Sends) -> bool {
+    pub fn note_counts(&mut self, drops: &Drops, sends: &Sends) -> bool {
         if !self.is_on || !self.is_due() {
             return false;
         }
@@ -167,15 +167,10 @@ impl<'a, H: Clock, E: Write> Log<'a, H, E> {
 
     /// Notes that typed bytes are left for which there is no room. Until there is room again, notes
     /// it only once.
-    pub fn full(&mut self, waiting: usize, is_full: bool) {
+    pub fn note_full(&mut self, waiting: usize, is_full: bool) {
         if is_full && !self.is_full {
             self.note(&Note::Full(waiting));
         }
         self.is_full = is_full;
     }
-}
-
-/// Returns the greater of two ballots, if there is one.
-fn greatest(first: Option<Ballot>, second: Option<Ballot>) -> Option<Ballot> {
-    first.max(second)
 }

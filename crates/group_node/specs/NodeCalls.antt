@@ -1,5 +1,5 @@
 -- A node that is up, and its calls before their saves.
-use Rattle.std.specs.Prelude.{ℕ, ◌+◌, ◌==◌, nat_lt, if◌then◌else◌, List, [], ◌∷◌, length}
+use Rattle.std.specs.Prelude.{ℕ, ◌+◌, ◌==◌, nat_lt, if◌then◌else◌, List, [], ◌∷◌, length, Result, Ok, Err}
 use Rattle.paxos_msg.specs.declared.limits.TheConstants.{LAST_ROUND, LAST_SERIAL, LAST_START, PLACES}
 use Rattle.paxos_msg.specs.declared.value.Value.{Value}
 use Rattle.paxos_msg.specs.Batches.{Record}
@@ -29,6 +29,11 @@ unreleased_by w = unreleased_of (input w.known) w.progress
 pub data NodeCall : Type 0 where
   Refuses : NodeFault → NodeCall
   Makes : Response → List Value → NodeCall
+
+-- What a call answers whose save, if it makes one, is kept.
+abbrev pub answer_to_call : NodeCall → Result (Unit {0}) NodeFault
+answer_to_call (Refuses e) = Err e
+answer_to_call (Makes done keys) = Ok tt
 
 -- The call that types a byte.
 -- It is refused if 256 keys wait, or else if the serials are spent.

@@ -40,8 +40,8 @@ abbrev pub most_of : ℕ → ℕ → ℕ
 most_of made steps = min (made + steps) 18446744073709551615
 
 -- A run that has steps left, and room for a byte.
-abbrev pub MayGoOn : List ℕ → ℕ → Progress → Type 0
-MayGoOn x most q = (q.steps < most) × (length (unreleased_of x q) < RING_BYTES)
+abbrev pub HasStepsAndRoom : List ℕ → ℕ → Progress → Type 0
+HasStepsAndRoom x most q = (q.steps < most) × (length (unreleased_of x q) < RING_BYTES)
 
 -- Why a run that may come to `most` steps is over.
 -- `More` says that all steps were made; otherwise `Full` that 256 bytes wait; otherwise `Waits`
@@ -52,9 +52,9 @@ abbrev pub IsOver : List ℕ → ℕ → Progress → Ran → Type 0
 IsOver x most q ran.More = q.steps ≡ most
 IsOver x most q ran.Full = (q.steps < most) × (length (unreleased_of x q) ≡ RING_BYTES)
 IsOver x most q ran.Waits =
-    MayGoOn x most q × (transition q.program x (after_steps q.program x q.steps) ≡ Waiting)
+    HasStepsAndRoom x most q × (transition q.program x (after_steps q.program x q.steps) ≡ Waiting)
 IsOver x most q (ran.Ended e) =
-    MayGoOn x most q × (transition q.program x (after_steps q.program x q.steps) ≡ Stops e)
+    HasStepsAndRoom x most q × (transition q.program x (after_steps q.program x q.steps) ≡ Stops e)
 
 -- The facts of a run of at most `steps` steps on the input `x`.
 -- Before each step that it made fewer than 256 bytes waited. Only the count of steps has changed.

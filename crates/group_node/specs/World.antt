@@ -279,7 +279,7 @@ pub record Sits (w : WorldState) (n : Known) (c : Configuration) (k : ℕ)
 
 -- A node that sits in its group, with its machine and its console, is in its ranges, and is backed
 -- by what was sent and typed there.
-pub record IsSeated (w : WorldState) (n : Known) (c : Configuration) (k : ℕ)
+pub record SitsSoundly (w : WorldState) (n : Known) (c : Configuration) (k : ℕ)
     (console : List ℕ) : Type 0 where
   pub sits : Sits w n c k console
   pub ranges : IsInRange n

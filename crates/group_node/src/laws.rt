@@ -3,11 +3,13 @@
 mod deeds;
 mod inputs;
 mod output;
+mod refusals;
 mod wrong;
 
 pub use deeds::calls_are_deeds;
 pub use inputs::input_is_chosen;
 pub use output::{learning_keeps_the_output, output_is_a_deed, replays_release_what_is_written};
+pub use refusals::calls_are_refused_alike;
 pub use wrong::{
     right_calls, right_deeds, wrong_absences, wrong_campaigns, wrong_causes, wrong_crashes,
     wrong_falls, wrong_idleness, wrong_learning, wrong_messages, wrong_neighbours, wrong_reads,

@@ -53,7 +53,7 @@ entry_in e = e.entry
 -- the entries of a start, and of several, without what was given
 attempt_without : (me : Me) (a : Attempt) → map entry_in (received_in me a) ≡ entries_of_attempt me a
 attempt_without me (Starts run) = simp (map-append, map-map, map-id)
-attempt_without me (FailsToStart loaded is_kept) = refl
+attempt_without me (FailsToStart loaded is_changed) = refl
 
 runs_without : (me : Me) (runs : List Attempt) → map entry_in (flat_map (received_in me) runs) ≡ flat_map (entries_of_attempt me) runs
 runs_without me [] = refl
@@ -92,7 +92,7 @@ module _ (p : Parts) (me : Me) where
   attempt_given : (kept : Record) (a : Attempt) (rest : List Attempt) → IsAttempt p me kept a rest
       → AllByRecursion (IsGiven me.group) (received_in me a)
   attempt_given kept (Starts run) rest (read, h, last) = grind (arith, all_append, all_given, ends_given)
-  attempt_given kept (FailsToStart loaded is_kept) rest h = (tt, tt)
+  attempt_given kept (FailsToStart loaded is_changed) rest h = (tt, tt)
 
   runs_given : (runs : List Attempt) (kept : Record) → AreRuns p me kept runs
       → AllByRecursion (IsGiven me.group) (flat_map (received_in me) runs)

@@ -96,7 +96,7 @@ module _ (p : Parts) (me : Me) where
         rw (append-nil, append-nil) (ap (λ z. z ∷ es) head ∙ ap (λ l. start ∷ l) (sym entries)),
         inr (refl, record { loaded = refl; rest = rest; doings = whole; failed = refl; goes_on = refl }),
       )
-  cut_attempt kept (FailsToStart loaded is_kept) rest es y fs any e =
+  cut_attempt kept (FailsToStart loaded is_changed) rest es y fs any e =
       ([], tt, nil_from_length es (omega (arith, ap length e, length-append es (y ∷ fs))), tt)
 
   -- a run that goes on stays the last one

@@ -37,11 +37,11 @@ record IsAt (shown : List ℕ) (w : Running) (m : Member) : Type 0 where
 -- ---- calls
 
 -- a call whose save fails, which leaves the changed record or the old one
-call_falls : (me : Me) (m : Member) (progress : Progress) (call : NodeCall) (made : Response) (is_kept : Bool) (e : Entry)
+call_falls : (me : Me) (m : Member) (progress : Progress) (call : NodeCall) (made : Response) (is_changed : Bool) (e : Entry)
     (kept : Record) → m.kept ≡ kept → call ≡ Makes made [] → made.saves ≢ None → (e.sent ≡ []) × (e.typed ≡ [])
-    → EndsCall me m progress (plan_of (failed_as is_kept)) call
-    (left_by e Fell (member_after_fall m (if is_kept then made.node.kept else kept)))
-call_falls me m progress call made is_kept e kept had is saves (sends, types) = grind arith
+    → EndsCall me m progress (plan_of (failed_as is_changed)) call
+    (left_by e Fell (member_after_fall m (if is_changed then made.node.kept else kept)))
+call_falls me m progress call made is_changed e kept had is saves (sends, types) = grind arith
 
 campaign_makes : (n : Known) → IsMade (call_of_campaign n) → call_of_campaign n ≡ Makes (on_campaign n) []
 campaign_makes n made = grind (arith, nat_tests)
@@ -119,33 +119,33 @@ module _ (p : Parts) (me : Me) where
   start_is_entry m loaded spare down read = grind arith
 
   -- a deed that is this call, and whose save fails
-  deed_falls : {shown : List ℕ} (w : Running) (m : Member) (d : Doing) (is_kept : Bool) (call : Known → NodeCall) (made : Response)
+  deed_falls : {shown : List ℕ} (w : Running) (m : Member) (d : Doing) (is_changed : Bool) (call : Known → NodeCall) (made : Response)
       → IsAt shown w m → ((plan : Option Bool) (left : Left) → Calls m plan call left → DoesDeed p me m plan d.deed left)
       → call w.known ≡ Makes made [] → made.saves ≢ None → SendsNothing d
-      → IsHistory p me m (run_end me.node is_kept (Some d))
-      (member_after_fall m (if is_kept then made.node.kept else w.known.kept))
-  deed_falls w m d is_kept call made at does is saves silent =
-      let e = entry_by me.node (failed_as is_kept) d in
-      let ends = call_falls me m w.progress (call w.known) made is_kept e w.known.kept at.kept is saves silent in
-      (member_after_fall m (if is_kept then made.node.kept else w.known.kept), (Fell, does _ _ (w, at.up, ends)), refl)
+      → IsHistory p me m (run_end me.node is_changed (Some d))
+      (member_after_fall m (if is_changed then made.node.kept else w.known.kept))
+  deed_falls w m d is_changed call made at does is saves silent =
+      let e = entry_by me.node (failed_as is_changed) d in
+      let ends = call_falls me m w.progress (call w.known) made is_changed e w.known.kept at.kept is saves silent in
+      (member_after_fall m (if is_changed then made.node.kept else w.known.kept), (Fell, does _ _ (w, at.up, ends)), refl)
 
   -- a deed whose save fails
-  fail_ends : {shown : List ℕ} (w : Running) (m : Member) (d : Doing) (is_kept : Bool) (deed : Deed) → IsAt shown w m → d.deed ≡ deed
+  fail_ends : {shown : List ℕ} (w : Running) (m : Member) (d : Doing) (is_changed : Bool) (deed : Deed) → IsAt shown w m → d.deed ≡ deed
       → FailsDeed me w deed d
-      → IsHistory p me m (run_end me.node is_kept (Some d))
-      (member_after_fall m (if is_kept then record_after w.known deed else w.known.kept))
-  fail_ends w m d is_kept (Hear x) at is (bytes, spelled, given, silent, saves) =
-      deed_falls w m d is_kept (λ n. Makes (on_message n x.sender x.body) []) _ at (λ plan left calls. rw is calls) refl saves silent
-  fail_ends w m d is_kept Campaign at is (made, given, silent) =
-      deed_falls w m d is_kept call_of_campaign _ at (λ plan left calls. rw is calls) (campaign_makes w.known made)
+      → IsHistory p me m (run_end me.node is_changed (Some d))
+      (member_after_fall m (if is_changed then record_after w.known deed else w.known.kept))
+  fail_ends w m d is_changed (Hear x) at is (bytes, spelled, given, silent, saves) =
+      deed_falls w m d is_changed (λ n. Makes (on_message n x.sender x.body) []) _ at (λ plan left calls. rw is calls) refl saves silent
+  fail_ends w m d is_changed Campaign at is (made, given, silent) =
+      deed_falls w m d is_changed call_of_campaign _ at (λ plan left calls. rw is calls) (campaign_makes w.known made)
       (λ none. absurd cc) silent
-  fail_ends w m d is_kept deed at is fails = absurd fails
+  fail_ends w m d is_changed deed at is fails = absurd fails
 
-  end_is_entry : {shown : List ℕ} (w : Running) (m : Member) (is_kept : Bool) (failed : Option Doing) → IsAt shown w m
+  end_is_entry : {shown : List ℕ} (w : Running) (m : Member) (is_changed : Bool) (failed : Option Doing) → IsAt shown w m
       → IfSome failed (λ d. FailsDeed me w d.deed d)
-      → IsHistory p me m (run_end me.node is_kept failed) (member_after_fall m (record_of w is_kept failed))
-  end_is_entry w m is_kept None at fails = (member_after_fall m m.kept, (Applied, (w, at.up, refl)), rw at.kept refl)
-  end_is_entry w m is_kept (Some d) at fails = fail_ends w m d is_kept d.deed at refl fails
+      → IsHistory p me m (run_end me.node is_changed failed) (member_after_fall m (record_of w is_changed failed))
+  end_is_entry w m is_changed None at fails = (member_after_fall m m.kept, (Applied, (w, at.up, refl)), rw at.kept refl)
+  end_is_entry w m is_changed (Some d) at fails = fail_ends w m d is_changed d.deed at refl fails
 
   -- an end, or none
   stand_is_entry : {shown : List ℕ} (run : NodeRun) (m : Member) (stand : Stand) → IsAt shown run.last m
@@ -153,9 +153,9 @@ module _ (p : Parts) (me : Me) where
       → (after : Member) × IsHistory p me m (ends_by me run stand) after × StandsWith after (record_by run stand) (node_by run stand)
       × (after.console ≡ m.console)
   stand_is_entry run m GoesOn at fails = (m, refl, record { record_is = at.kept; node_is = at.up }, refl)
-  stand_is_entry run m (IsOver is_kept) at fails =
-      let ends = end_is_entry run.last m is_kept run.process.failed at fails in
-      (member_after_fall m (record_of run.last is_kept run.process.failed), ends, record { record_is = refl; node_is = refl }, refl)
+  stand_is_entry run m (IsOver is_changed) at fails =
+      let ends = end_is_entry run.last m is_changed run.process.failed at fails in
+      (member_after_fall m (record_of run.last is_changed run.process.failed), ends, record { record_is = refl; node_is = refl }, refl)
 
   -- ---- runs
 
@@ -178,12 +178,12 @@ module _ (p : Parts) (me : Me) where
         stands,
         elim still.shows [ inl so ↦ inl (same ∙ so) | inr few ↦ inr (run, first_in (Starts run) rest, rw same few) ],
       )
-  attempt_is_history m (FailsToStart loaded is_kept) rest down (read, spare) =
-      let e : Entry = record { node = me.node; deed = Start loaded; save = failed_as is_kept; sent = []; typed = [] } in
+  attempt_is_history m (FailsToStart loaded is_changed) rest down (read, spare) =
+      let e : Entry = record { node = me.node; deed = Start loaded; save = failed_as is_changed; sent = []; typed = [] } in
       let makes = start_makes me loaded spare in
-      let ends = call_falls me m (no_progress p) _ (on_start me loaded) is_kept e loaded (sym read) makes (λ none. absurd cc)
+      let ends = call_falls me m (no_progress p) _ (on_start me loaded) is_changed e loaded (sym read) makes (λ none. absurd cc)
       (refl, refl) in
-      let fallen = member_after_fall m (record_left (FailsToStart loaded is_kept)) in
+      let fallen = member_after_fall m (record_left (FailsToStart loaded is_changed)) in
       (fallen, (fallen, (Fell, (down, read, ends)), refl), record { record_is = refl; node_is = refl }, inl refl)
 
   -- a run that goes on is the last, so the node is down before each other one

@@ -48,8 +48,8 @@ received_in_run me run =
 -- A start as entries of its node with what receives gave.
 abbrev pub received_in : Me → Attempt → List GivenEntry
 received_in me (Starts run) = received_in_run me run
-received_in me (FailsToStart loaded is_kept) =
-    map unreceived (entries_of_attempt me (FailsToStart loaded is_kept))
+received_in me (FailsToStart loaded is_changed) =
+    map unreceived (entries_of_attempt me (FailsToStart loaded is_changed))
 
 -- The entries of one node, in order.
 abbrev pub received_by : ℕ → List GivenEntry → List GivenEntry

@@ -36,13 +36,13 @@ entry_by node save d =
 
 -- The outcome of a save that failed.
 abbrev pub failed_as : Bool → Outcome
-failed_as is_kept = if is_kept then FailedNew else FailedOld
+failed_as is_changed = if is_changed then FailedNew else FailedOld
 
 -- The end of a process: it was killed, or its save failed at a deed; then its store has the changed
 -- record or the old one.
 abbrev pub run_end : ℕ → Bool → Option Doing → List Entry
-run_end node is_kept None = quiet_entry node Crash ∷ []
-run_end node is_kept (Some d) = entry_by node (failed_as is_kept) d ∷ []
+run_end node is_changed None = quiet_entry node Crash ∷ []
+run_end node is_changed (Some d) = entry_by node (failed_as is_changed) d ∷ []
 
 -- The record of a node that is up after a deed: only a message or a campaign may change it.
 abbrev pub record_after : Known → Deed → Record
@@ -52,9 +52,9 @@ record_after n _ = n.kept
 
 -- The record at the end of a process whose node was `last`.
 abbrev pub record_of : Running → Bool → Option Doing → Record
-record_of last is_kept None = last.known.kept
-record_of last is_kept (Some d) =
-    if is_kept then record_after last.known d.deed else last.known.kept
+record_of last is_changed None = last.known.kept
+record_of last is_changed (Some d) =
+    if is_changed then record_after last.known d.deed else last.known.kept
 
 -- ---- runs, one after the other
 
@@ -73,7 +73,7 @@ pub record NodeRun : Type 0 where
 -- The entries of the end of a run, if it is over.
 abbrev pub ends_by : Me → NodeRun → Stand → List Entry
 ends_by me run GoesOn = []
-ends_by me run (IsOver is_kept) = run_end me.node is_kept run.process.failed
+ends_by me run (IsOver is_changed) = run_end me.node is_changed run.process.failed
 
 -- A run as entries of its node.
 abbrev pub entries_of_run : Me → NodeRun → List Entry
@@ -84,12 +84,12 @@ entries_of_run me run =
 -- The record that a run leaves.
 abbrev pub record_by : NodeRun → Stand → Record
 record_by run GoesOn = run.last.known.kept
-record_by run (IsOver is_kept) = record_of run.last is_kept run.process.failed
+record_by run (IsOver is_changed) = record_of run.last is_changed run.process.failed
 
 -- The node that a run leaves, if it is up.
 abbrev pub node_by : NodeRun → Stand → Option Running
 node_by run GoesOn = Some run.last
-node_by run (IsOver is_kept) = None
+node_by run (IsOver is_changed) = None
 
 -- A start of a node's process: it runs; or the save of its start over this record fails, and its
 -- store has the changed record, or the old one.
@@ -100,11 +100,11 @@ pub data Attempt : Type 0 where
 -- A start as entries of its node.
 abbrev pub entries_of_attempt : Me → Attempt → List Entry
 entries_of_attempt me (Starts run) = entries_of_run me run
-entries_of_attempt me (FailsToStart loaded is_kept) =
+entries_of_attempt me (FailsToStart loaded is_changed) =
     (record {
       node = me.node;
       deed = Start loaded;
-      save = failed_as is_kept;
+      save = failed_as is_changed;
       sent = [];
       typed = [];
     }) ∷ []
@@ -112,25 +112,25 @@ entries_of_attempt me (FailsToStart loaded is_kept) =
 -- The record that a start leaves.
 abbrev pub record_left : Attempt → Record
 record_left (Starts run) = record_by run run.stand
-record_left (FailsToStart loaded is_kept) =
-    if is_kept then changed loaded change.Start else loaded
+record_left (FailsToStart loaded is_changed) =
+    if is_changed then changed loaded change.Start else loaded
 
 -- The node that a start leaves, if it is up.
 abbrev pub node_left : Attempt → Option Running
 node_left (Starts run) = node_by run run.stand
-node_left (FailsToStart loaded is_kept) = None
+node_left (FailsToStart loaded is_changed) = None
 
 -- A run that goes on is the last one.
 abbrev pub IsLastIfOn : Stand → List Attempt → Type 0
 IsLastIfOn GoesOn rest = rest ≡ []
-IsLastIfOn (IsOver is_kept) rest = Unit {0}
+IsLastIfOn (IsOver is_changed) rest = Unit {0}
 
 -- A start over a store that has the record `kept`. Its load gives this record.
 -- Forbids: a load that gives an older record; a start while a run goes on.
 abbrev pub IsAttempt : Parts → Me → Record → Attempt → List Attempt → Type 0
 IsAttempt p me kept (Starts run) rest =
     (run.process.loaded ≡ kept) × IsProcess p me run.process run.last × IsLastIfOn run.stand rest
-IsAttempt p me kept (FailsToStart loaded is_kept) rest =
+IsAttempt p me kept (FailsToStart loaded is_changed) rest =
     (loaded ≡ kept) × (loaded.starts ≢ LAST_START)
 
 -- The starts of a node, one after the other, over a store that keeps its record: each load gives

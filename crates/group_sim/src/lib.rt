@@ -9,6 +9,7 @@
 #![tactic(auto)]
 
 pub mod laws;
+pub mod limits;
 mod refusal;
 mod script_file;
 mod showing;
@@ -17,4 +18,4 @@ mod text;
 
 pub use refusal::{LineFault, ScriptRefusal};
 pub use script_file::sim_file;
-pub use simulation::{Halted, sim};
+pub use simulation::{HaltCause, Halted, sim};

@@ -1,5 +1,5 @@
 //! The refusals of the command `sim`.
-use crate::simulation::Halted;
+use crate::simulation::{HaltCause, Halted};
 use group_world::{ScriptFault, WorldFault};
 use machine_run::MachineRefusal;
 use thiserror::Error;
@@ -39,41 +39,42 @@ impl From<MachineRefusal> for ScriptRefusal {
 }
 
 impl From<ScriptFault> for ScriptRefusal {
-    ghost use Rattle.std.specs.Prelude.{◌≡◌, false, true};
-    ghost use Rattle.group_world.specs.declared.fault.WorldFault.TheVariants.{Memory};
+    ghost use Rattle.std.specs.Prelude.{◌≡◌, ℕ};
+    ghost use Rattle.group_world.specs.declared.fault.WorldFault.TheVariants as world;
+    ghost use Rattle.group_world.specs.declared.script.ScriptFault.TheVariants as script;
     ghost use Rattle.group_sim.specs.declared.refusal.LineFault.TheVariants.{Unread, World};
     ghost use Rattle.group_sim.specs.declared.refusal.ScriptRefusal.TheVariants.{Line};
 
-    ghost from_gives = { λ refused r.
-        (refused.memory ≡ true → r ≡ Line refused.line (World Memory))
-        × (refused.memory ≡ false → r ≡ Line refused.line Unread) };
+    ghost from_gives = { λ fault r.
+        ((line : ℕ) → fault ≡ script.Memory line → r ≡ Line line (World world.Memory))
+        × ((line : ℕ) → fault ≡ script.Unread line → r ≡ Line line Unread) };
 
-    fn from(refused: ScriptFault) -> ScriptRefusal {
-        let line = refused.line;
-        let fault = if refused.memory {
-            LineFault::World(WorldFault::Memory)
-        } else {
-            LineFault::Unread
+    fn from(fault: ScriptFault) -> ScriptRefusal {
+        let (line, fault) = match fault {
+            ScriptFault::Unread(line) => (line, LineFault::Unread),
+            ScriptFault::Memory(line) => (line, LineFault::World(WorldFault::Memory)),
         };
         ScriptRefusal::Line { line, fault }
     }
 }
 
 impl From<Halted> for ScriptRefusal {
-    ghost use Rattle.std.specs.Prelude.{◌≡◌, None, Some};
+    ghost use Rattle.std.specs.Prelude.{◌≡◌};
     ghost use Rattle.group_world.specs.declared.fault.WorldFault.{WorldFault};
+    ghost use Rattle.group_sim.specs.declared.simulation.HaltCause.TheVariants as cause;
     ghost use Rattle.group_sim.specs.declared.refusal.LineFault.TheVariants.{TooLong, World};
     ghost use Rattle.group_sim.specs.declared.refusal.ScriptRefusal.TheVariants.{Line};
 
     ghost from_gives = { λ halted r.
-        ((fault : WorldFault) → halted.fault ≡ Some fault → r ≡ Line halted.line (World fault))
-        × (halted.fault ≡ None → r ≡ Line halted.line TooLong) };
+        ((fault : WorldFault) → halted.cause ≡ cause.Refused fault
+        → r ≡ Line halted.line (World fault))
+        × (halted.cause ≡ cause.TooLong → r ≡ Line halted.line TooLong) };
 
     fn from(halted: Halted) -> ScriptRefusal {
         let line = halted.line;
-        let fault = match halted.fault {
-            Some(fault) => LineFault::World(fault),
-            None => LineFault::TooLong,
+        let fault = match halted.cause {
+            HaltCause::Refused(fault) => LineFault::World(fault),
+            HaltCause::TooLong => LineFault::TooLong,
         };
         ScriptRefusal::Line { line, fault }
     }

@@ -12,6 +12,7 @@ use group_node::Node;
 use group_world::World;
 use machine_run::{ByteWriter, WriteFault};
 use paxos_acceptor::MemoryStore;
+use paxos_learner::WINDOW;
 use paxos_msg::{Ballot, PLACES, Value};
 
 /// Writes a ballot.
@@ -175,9 +176,6 @@ fn write_place<W: ByteWriter>(
         Some(value) => write_learned(writer, place, value),
     }
 }
-
-/// How far above its front a node learns nothing.
-const WINDOW: u32 = 1_024;
 
 /// Returns a place from which on a node has learned nothing.
 fn end_of(node: &Node<'_, MemoryStore>) -> u32

@@ -7,6 +7,7 @@ ghost use Rattle.group_sim.specs.Groups.{node_at};
 ghost use Rattle.group_sim.specs.Moments.{DeliversOne, DeliversAll, HappensAt, InTurn, PerformsLines, PerformsTask, Plays, ReleasesAll, Says, Settles, Shows, event_text, group_of, halt_answer, is_meant, moment, refusal_text, unreleased_count};
 ghost use Rattle.group_sim.specs.Texts.{held, PutsText};
 
+use crate::limits::{DELIVERIES, SETTLE_STEPS};
 use crate::showing::write_group;
 use crate::text::{put, put_number};
 use group_node::{NodeFault, To};
@@ -15,28 +16,28 @@ use machine_run::{ByteWriter, IoFault, WriteFault};
 use pcode_ops::Program;
 use std::alloc::Global;
 
-/// The most deliveries that a settle makes.
-pub const DELIVERIES: u32 = 10_000;
-
-/// The most steps that each machine makes at the end of a settle.
-pub const SETTLE_STEPS: u32 = 1_000;
+/// Why a script halted at a line.
+#[derive(Clone, Copy, Debug, PartialEq, Eq)]
+pub enum HaltCause {
+    /// The world refused an event of the line, or, at line 1, the group.
+    Refused(WorldFault),
+    /// The line is a settle that has more than 10,000 deliveries to make.
+    TooLong,
+}
 
 /// The line at which a script halted, and why.
 #[derive(Clone, Copy, Debug, PartialEq, Eq)]
 pub struct Halted {
     /// The number of the line, from 1.
     pub line: usize,
-    /// The world's refusal, or `None` if a settle was too long.
-    pub fault: Option<WorldFault>,
+    pub cause: HaltCause,
 }
 
 /// Why a script doesn't go on after a line.
 #[derive(Clone, Copy, Debug, PartialEq, Eq)]
 enum ScriptHalt {
-    /// The world refused an event.
-    Refused(WorldFault),
-    /// The settle is too long.
-    TooLong,
+    /// The line itself is the cause.
+    For(HaltCause),
     /// A write failed, or took nothing.
     Unwritten,
 }
@@ -105,7 +106,10 @@ impl Simulation<'_> {
         ensures happens { PerformsTask W.contents W.write_faults
             (HappensAt line event.now) self writer result }
     {
-        let done = self.world.apply(event).map_err(ScriptHalt::Refused)?;
+        let done = match self.world.apply(event) {
+            Ok(done) => done,
+            Err(fault) => return Err(ScriptHalt::For(HaltCause::Refused(fault))),
+        };
         tell(writer, line, done).or(Err(ScriptHalt::Unwritten))
     }
 
@@ -148,7 +152,7 @@ impl Simulation<'_> {
             return Ok(());
         }
         if self.left == 0 {
-            return Err(ScriptHalt::TooLong);
+            return Err(ScriptHalt::For(HaltCause::TooLong));
         }
         self.left -= 1;
         self.go_on(writer, line, Act::Deliver(message, node))
@@ -300,12 +304,10 @@ impl Simulation<'_> {
 fn halted_at(line: usize, halt: ScriptHalt) -> Result<Option<Halted>, IoFault>
     ensures { result ≡ halt_answer line halt }
 {
-    let fault = match halt {
-        ScriptHalt::Refused(fault) => Some(fault),
-        ScriptHalt::TooLong => None,
-        ScriptHalt::Unwritten => return Err(IoFault::Write),
-    };
-    Ok(Some(Halted { line, fault }))
+    match halt {
+        ScriptHalt::For(cause) => Ok(Some(Halted { line, cause })),
+        ScriptHalt::Unwritten => Err(IoFault::Write),
+    }
 }
 
 /// Performs `script` on a new group that runs `program`. At `Ok(None)` each line was done, in
@@ -335,7 +337,8 @@ pub fn sim<W: ByteWriter>(
     ensures performs { PerformsLines (group_of program.now script.now) script.now.lines.items
         (held W.contents W.write_faults writer.old) (held W.contents W.write_faults writer.new)
         result }
-    ensures size { result ≡ Ok (Some (record { line = 1; fault = Some WorldFault.Size }))
+    ensures size { result
+        ≡ Ok (Some (record { line = 1; cause = HaltCause.Refused WorldFault.Size }))
         ↔ ¬ IsSize script.now.size }
 {
     let size = script.size;
@@ -346,7 +349,7 @@ pub fn sim<W: ByteWriter>(
             passed: 0,
             left: 0,
         },
-        Err(fault) => return halted_at(1, ScriptHalt::Refused(fault)),
+        Err(fault) => return halted_at(1, ScriptHalt::For(HaltCause::Refused(fault))),
     };
     let mut number = 1;
     for line in script.lines.iter() {

@@ -3,3 +3,5 @@ pub mod Prompts
 pub mod Sources
 pub mod OwnDatagrams
 pub mod Pace
+pub mod Rests
+pub mod Kinds

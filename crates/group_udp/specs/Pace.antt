@@ -1,7 +1,18 @@
 -- How long a node rests between two turns.
-use Rattle.std.specs.Prelude.{◌+◌, ◌-◌, ◌*◌, ◌/◌, ℕ, min, max, Bool, true, false, if◌then◌else◌, Option, Some, None}
+use Rattle.std.specs.Prelude.{◌≤◌, ◌+◌, ◌-◌, ◌*◌, ◌/◌, ℕ, min, max, Bool, true, false, if◌then◌else◌, Option, Some, None}
 use Rattle.group_udp.specs.declared.limits.TheConstants.{LONG_PAUSE, LONG_REST, SHORT_REST}
 use Rattle.group_udp.specs.declared.pace.Pace.{Pace}
+
+-- The pace of a node that starts.
+abbrev pub first_pace : Pace
+first_pace = record { rest = SHORT_REST; first = SHORT_REST; is_sending = false }
+
+-- A pace whose rest and first pause take 10 to 200 milliseconds.
+pub record IsPace (pace : Pace) : Type 0 where
+  pub short : SHORT_REST ≤ pace.rest
+  pub long : pace.rest ≤ LONG_PAUSE
+  pub short_first : SHORT_REST ≤ pace.first
+  pub long_first : pace.first ≤ LONG_PAUSE
 
 -- The first pause between repeats, once a place was learned so many milliseconds after something
 -- was last sent for it.

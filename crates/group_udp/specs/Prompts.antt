@@ -1,6 +1,6 @@
--- What a node is prompted to do, and what its keyboard has given it for that.
-use Rattle.std.specs.Prelude.{◌≡◌, ◌≤◌, ◌+◌, ℕ, Bool, true, false, List, [], ◌∷◌, ◌++◌, filter, flat_map, length, Option, option_map}
-use Rattle.group_node.specs.Deeds.{Campaign, Deed, Press, Run}
+-- What a keyboard gives a node to do, and what it has left.
+use Rattle.std.specs.Prelude.{◌+◌, ℕ, Bool, true, false, List, [], ◌∷◌, ◌++◌, filter, flat_map, length, Option, option_map}
+use Rattle.group_node.specs.Deeds.{Campaign, Deed, Press}
 
 -- The byte that is typed by a prompt, if it types one.
 abbrev pub byte_in : Deed → List ℕ
@@ -20,15 +20,6 @@ is_campaign _ = false
 abbrev pub campaigns_in : List Deed → ℕ
 campaigns_in prompts = length (filter is_campaign prompts)
 
--- True of a prompt to run the machine.
-abbrev pub is_run : Deed → Bool
-is_run (Run steps) = true
-is_run _ = false
-
--- How often these prompts run the machine: once in each turn.
-abbrev pub turns_in : List Deed → ℕ
-turns_in prompts = length (filter is_run prompts)
-
 -- What a keyboard has left: its bytes in order, and how many requests to campaign. A request may
 -- be given before bytes that came earlier.
 pub record Remaining : Type 0 where
@@ -46,16 +37,3 @@ before_gift gift left = record {
 -- Allows: a keyboard of which that is unknown.
 abbrev pub with_gift : List Deed → Option Remaining → Option Remaining
 with_gift gift left = option_map (λ l. before_gift gift l) left
-
--- The prompts of a node in so many turns, at which its keyboard gave the prompts `gift`. What was
--- typed is what the keyboard gave, each byte once and in order. If the serials were spent, the last
--- bytes that it gave were lost.
--- Allows: a campaign that was asked for, and could not begin, or that a leader has ignored.
--- Forbids: a byte that is typed twice; a campaign that nobody asked for.
-pub record IsPrompted (gift : List Deed) (turns : ℕ) (spent : Type 0) (prompts : List Deed)
-    : Type 0 where
-  pub lost : List ℕ
-  pub typed : bytes_in gift ≡ bytes_in prompts ++ lost
-  pub all : ¬ spent → lost ≡ []
-  pub campaigns : campaigns_in prompts ≤ campaigns_in gift
-  pub made : turns_in prompts ≡ turns

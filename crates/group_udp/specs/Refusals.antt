@@ -31,13 +31,15 @@ abbrev pub IsCampaignRefusal : GroupFault → Type 0
 IsCampaignRefusal e = (e ≡ group.Node Store) ⊎ (e ≡ group.Node fault.RoundsSpent)
     ⊎ (e ≡ group.Node fault.PlacesSpent) ⊎ (e ≡ group.Node fault.Memory)
 
--- What else a start may refuse.
+-- What a start may refuse: memory ran out, a load or a save fails, the record is damaged, or its
+-- starts are spent.
 abbrev pub IsStartRefusal : GroupFault → Type 0
-IsStartRefusal e = (e ≡ group.Node fault.BadRecord) ⊎ (e ≡ group.Node fault.StartsSpent)
+IsStartRefusal e = (e ≡ group.Node fault.Memory) ⊎ (e ≡ group.Node Store)
+    ⊎ (e ≡ group.Node fault.BadRecord) ⊎ (e ≡ group.Node fault.StartsSpent)
 
 -- What a node may refuse from its start on.
 abbrev pub IsRunRefusal : GroupFault → Type 0
-IsRunRefusal e = IsCycleRefusal e ⊎ (e ≡ write_failed) ⊎ IsCampaignRefusal e ⊎ IsStartRefusal e
+IsRunRefusal e = IsWrittenCycleRefusal e ⊎ IsCampaignRefusal e ⊎ IsStartRefusal e
 
 -- The refusal for a socket that is missing.
 abbrev pub IsSocketRefusal : GroupFault → Type 0

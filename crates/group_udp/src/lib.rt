@@ -3,10 +3,10 @@
 //! It is for programs that run a group on real machines by cycles of their own. Call first:
 //!
 //! - `bind(rt, address)` and `Watch::new(rt)`, for the sockets of a node;
-//! - `UdpWire::new(..)`, which makes a wire of a socket: a `Wire` for the turns of a `Host`, and a
-//!   `RestingWire` for the rests between them;
+//! - `UdpWire::new(..)`, which makes a wire of a socket: a `Wire` for the turns of a `Host`, a
+//!   `RestingWire` for the rests between them, and a `CountedWire` for the log;
 //! - `TypedDatagrams::new(..)`, a `Keyboard` for bytes that come as datagrams;
-//! - `laws::sources_are_senders`, a law: whose datagrams a node takes.
+//! - `laws`: whose datagrams a node takes, and how long it rests.
 //!
 //! The crates `node_run` and `net_run` run whole nodes and groups on them. A `GroupFault` says why
 //! a run ended early.
@@ -14,10 +14,12 @@
 
 mod fault;
 mod keyboard;
+mod kinds;
 pub mod laws;
 pub mod limits;
 mod own_datagrams;
 mod pace;
+mod rest;
 mod resting;
 mod sources;
 mod trace;
@@ -26,7 +28,7 @@ mod udp;
 
 pub use fault::GroupFault;
 pub use keyboard::Keyboard;
-pub use resting::{RestingWire, Waited};
+pub use resting::{CountedWire, RestingWire, Waited};
 pub use sources::address_at;
 pub use trace::Trace;
 pub use typed::TypedDatagrams;

@@ -1,7 +1,7 @@
 //! The limits of a node on UDP, each under its name. Code, clauses and definitions cite them.
 
 /// The most bytes of a datagram that is typed. A longer one is dropped.
-pub const LONGEST_PRESS: usize = 64;
+pub const LONGEST_TYPED: usize = 64;
 
 /// The most datagrams that are kept of those that a node has sent to itself.
 pub const MOST_OWN: usize = 256;

@@ -1,6 +1,6 @@
 //! How long a node rests between two turns.
-ghost use Rattle.std.specs.Prelude.{◌≡◌, false};
-ghost use Rattle.group_udp.specs.Pace.{first_after, least_of, pace_after, rest_after};
+ghost use Rattle.std.specs.Prelude.{◌≡◌};
+ghost use Rattle.group_udp.specs.Pace.{first_after, first_pace, least_of, pace_after, rest_after};
 
 use crate::limits::{LONG_PAUSE, LONG_REST, SHORT_REST};
 
@@ -19,7 +19,7 @@ pub struct Pace {
 impl Pace {
     /// Returns the pace of a node that starts.
     pub fn new() -> Pace
-        ensures { result ≡ record { rest = SHORT_REST; first = SHORT_REST; is_sending = false } }
+        ensures { result ≡ first_pace }
     {
         Pace {
             rest: SHORT_REST,

@@ -1,4 +1,4 @@
-//! A wire at which a node can rest.
+//! A wire at which a node can rest, and one that counts for its log.
 ghost use Rattle.std.specs.Prelude.{◌≡◌};
 
 use group_log::{Drops, Sends};
@@ -17,22 +17,27 @@ pub enum Waited {
 
 /// A wire at which a node can rest between its turns. Nothing passes over it in these calls.
 pub trait RestingWire: Wire {
-    /// Begins a rest of a node whose known front is `front`.
+    /// Begins a rest of a node whose known front is `front`, 0 to 65,536.
     fn begin_rest(&mut self, front: u32)
         ensures passed { Self.traffic self.new ≡ Self.traffic self.old };
 
-    /// Notes that a place has become known. While typed keys of the node are under way, the rest
-    /// then ends as soon as it may.
+    /// Notes that a place has become known. The rest then ends as soon as one may while typed keys
+    /// are under way.
     fn note_learned(&mut self)
         ensures passed { Self.traffic self.new ≡ Self.traffic self.old };
 
     /// Returns true if the rest is over.
     fn is_over(&self) -> bool;
 
-    /// Waits until something may have come, or until the rest is over.
+    /// Waits until something may have come, or until the rest is over. Call it once a receive has
+    /// given nothing: what is there already need not end it.
     fn wait(&mut self) -> Waited
         ensures passed { Self.traffic self.new ≡ Self.traffic self.old };
+}
 
+/// A wire that counts datagrams, and may have a trace, for the log of a node. Nothing passes over
+/// it in these calls.
+pub trait CountedWire: RestingWire {
     /// Returns the number of datagrams that were dropped since these counts were set to 0.
     fn drops(&self) -> Drops;
 

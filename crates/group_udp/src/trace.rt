@@ -1,26 +1,30 @@
 //! The trace of a node: a file in which it writes down its calls, and what it sends at each.
+use crate::kinds::may_save;
 use group_log::{Call, Traced, millis_now, traced_line};
 use group_wire::Told;
 use paxos_msg::Group;
 use std::fs::{self, OpenOptions};
-use std::io::Write;
+use std::io::{ErrorKind, Write};
 use std::net::SocketAddr;
 use std::rt::Files;
 use std::time::Clock;
 
-/// The index in a datagram of its kind.
-const KIND: usize = 3;
-
-/// The kinds of the messages at which a node may save: a Prepare and an Accept.
-const SAVING: [u8; 2] = [1, 3];
+/// Returns the bytes of a file, none of one that is not there, or `None` if they cannot be read.
+fn bytes_of<H: Files + AllocGlobal>(rt: &H, path: &str) -> Option<Vec<u8>> {
+    match fs::read(rt, path) {
+        Ok(bytes) => Some(bytes),
+        Err(fault) if fault.kind() == ErrorKind::NotFound => Some(Vec::new(rt.alloc())),
+        Err(_) => None,
+    }
+}
 
 /// The trace of one process of a node. Its lines are appended to a file, each whole and at once. If
 /// one cannot be written, none is from then on.
 pub struct Trace<'a, H: Files> {
     rt: &'a H,
     file: Option<H::File>,
-    /// The bytes of the record's file before the start.
-    record: Vec<u8>,
+    /// The bytes of the record's file before the start, or `None` if they could not be read.
+    record: Option<Vec<u8>>,
     /// The call that may save and has begun last.
     begun: Call,
     /// The node's own address, and the source of the datagram that was received last.
@@ -59,7 +63,7 @@ impl<'a, H: Files + Clock + AllocGlobal> Trace<'a, H> {
         let mut trace = Trace {
             rt,
             file: file.ok(),
-            record: fs::read(rt, record).unwrap_or(Vec::new(rt.alloc())),
+            record: bytes_of(rt, record),
             begun: Call::Start,
             own,
             source: own,
@@ -71,7 +75,7 @@ impl<'a, H: Files + Clock + AllocGlobal> Trace<'a, H> {
     }
 
     /// Returns true if no line is written any more, the first time after that.
-    pub fn is_first_loss(&mut self) -> bool {
+    pub fn take_loss(&mut self) -> bool {
         let is_first = self.file.is_none() && !self.is_loss_said;
         self.is_loss_said = self.file.is_none();
         is_first
@@ -98,13 +102,14 @@ impl<'a, H: Files + Clock + AllocGlobal> Trace<'a, H> {
         }
     }
 
-    /// Writes that the node has started, and frees what the file of its record had.
+    /// Writes that the node has started, and frees what the file of its record had. If that could
+    /// not be read, the trace is lost.
     fn write_started(&mut self) {
-        let record = std::mem::replace(&mut self.record, Vec::new(self.rt.alloc()));
-        if record.is_empty() {
-            return self.write(&Traced::StartedNew);
+        match self.record.take() {
+            None => self.file = None,
+            Some(record) if record.is_empty() => self.write(&Traced::StartedNew),
+            Some(record) => self.write(&Traced::Started(record.as_slice())),
         }
-        self.write(&Traced::Started(record.as_slice()));
     }
 
     /// Writes what begins, where it may save.
@@ -118,7 +123,7 @@ impl<'a, H: Files + Clock + AllocGlobal> Trace<'a, H> {
         match *told {
             Told::Started => self.write_started(),
             Told::BeginsToHear(bytes) => {
-                if bytes.get(KIND).is_some_and(|kind| SAVING.contains(kind)) {
+                if may_save(bytes) {
                     self.begins(Call::Hear, &Traced::BeginsHear(bytes));
                 }
             }

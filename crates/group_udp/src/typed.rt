@@ -1,6 +1,6 @@
 //! Typed bytes that come as datagrams.
 use crate::keyboard::Keyboard;
-use crate::limits::{LONGEST_PRESS, MOST_KEPT, MOST_TAKEN_IN, REQUESTS_APART};
+use crate::limits::{LONGEST_TYPED, MOST_KEPT, MOST_TAKEN_IN, REQUESTS_APART};
 use crate::udp::receive_from;
 use circular_buffer::HeapCircularBuffer;
 use group_protocol::limits::MOST_WAITING;
@@ -57,13 +57,13 @@ impl<'a, H: Clock> TypedDatagrams<'a, H> {
 
     /// Takes in the next datagram. Returns false if none is there.
     fn take_in(&mut self) -> bool {
-        let mut buffer = [0u8; LONGEST_PRESS + 1];
+        let mut buffer = [0u8; LONGEST_TYPED + 1];
         let Some((count, _)) = receive_from(&self.socket, &mut buffer) else {
             return false;
         };
         if count == 0 {
             self.has_request = self.has_request || !self.was_just_asked();
-        } else if count <= LONGEST_PRESS {
+        } else if count <= LONGEST_TYPED {
             self.keep(&buffer[..count]);
         }
         true

@@ -4,10 +4,10 @@ ghost use Rattle.group_udp.specs.Refusals.{IsOpenRefusal, IsSocketRefusal};
 ghost use Rattle.group_udp.specs.Sources.{drop_of};
 
 use crate::fault::GroupFault;
-use crate::limits::LONG_PAUSE;
+use crate::kinds::is_ask;
 use crate::own_datagrams::OwnDatagrams;
-use crate::pace::Pace;
-use crate::resting::{RestingWire, Waited};
+use crate::rest::Rest;
+use crate::resting::{CountedWire, RestingWire, Waited};
 use crate::sources::{address_at, is_from_sender, taken_of};
 use crate::trace::Trace;
 use group_log::{DropReason, Drops, Sends, reason_of};
@@ -19,12 +19,6 @@ use paxos_msg::limits::MOST_NODES;
 use std::net::{Net, SocketAddr};
 use std::rt::Files;
 use std::time::{Clock, Duration, Instant};
-
-/// The index in a datagram of its kind.
-const KIND: usize = 3;
-
-/// The kind of an Ask.
-const ASK: u8 = 7;
 
 /// Binds a socket at this address, whose calls never wait. Fails if that cannot be done.
 pub fn bind<H: Net>(rt: &H, address: SocketAddr) -> Result<UdpSocket, GroupFault>
@@ -117,18 +111,10 @@ pub struct UdpWire<'a, H: Files> {
     own: OwnDatagrams,
     /// True if the next receive takes one of the node's own first. While both have some, they and
     /// the socket's come in turn, so that neither many datagrams of others nor a long answer of the
-    /// node to itself holds the rest back.
+    /// node to itself holds the others back.
     is_own_next: bool,
-    /// The begin and the end of the rest.
-    begun: Option<Instant>,
-    until: Option<Instant>,
-    pace: Pace,
-    /// The known front of the node when its last rest began.
-    front: u32,
-    /// True if anything but Asks was sent since then, and since a place was learned in it.
-    has_sent: bool,
-    /// When something but Asks was last sent: before the last rest, or else first in it.
-    since: Option<Instant>,
+    /// The last rest of the node.
+    rest: Rest,
     /// The group for which dropped datagrams are counted, or None if none are.
     counted: Option<Group>,
     /// The number of datagrams that were dropped, and sent to other nodes, since these counts were
@@ -164,12 +150,7 @@ impl<'a, H: Clock + Files + AllocGlobal> UdpWire<'a, H> {
             addresses,
             own,
             is_own_next: true,
-            begun: None,
-            until: None,
-            pace: Pace::new(),
-            front: 0,
-            has_sent: false,
-            since: None,
+            rest: Rest::new(),
             counted,
             drops: Drops::default(),
             sends: Sends::default(),
@@ -208,42 +189,14 @@ impl<'a, H: Clock + Files + AllocGlobal> UdpWire<'a, H> {
         }
     }
 
-    /// Returns the time that is left of the rest.
-    fn left(&self) -> Option<Duration> {
-        let now = Instant::now(self.clock).ok()?;
-        self.until?.checked_duration_since(now)
-    }
-
-    /// Returns the time so many milliseconds from now, if the clock can be read.
-    fn time_in(&self, millis: u64) -> Option<Instant> {
-        let now = Instant::now(self.clock).ok()?;
-        now.checked_add(Duration::from_millis(millis))
+    /// Returns the time now, if the clock can be read.
+    fn now(&self) -> Option<Instant> {
+        Instant::now(self.clock).ok()
     }
 
     /// Returns the number of nodes in the group.
     fn size(&self) -> u8 {
         u8::try_from(self.addresses.len()).unwrap_or(MOST_NODES)
-    }
-
-    /// Returns the time in milliseconds from when something was last sent until now. An answer to
-    /// what was repeated comes soon on a quick network, whatever was lost before.
-    fn took(&self) -> u64 {
-        let (Some(since), Ok(now)) = (self.since, Instant::now(self.clock)) else {
-            return 0;
-        };
-        u64::try_from(now.saturating_duration_since(since).as_millis()).unwrap_or(LONG_PAUSE)
-    }
-
-    /// Notes that the node sends something but an Ask. A rest that began while nothing was under
-    /// way ends soon then, since what is sent may be lost.
-    fn note_sent(&mut self) {
-        if !self.has_sent && !self.pace.is_sending {
-            let pause = self.pace.first;
-            let soon = self.time_in(pause);
-            self.until = self.until.min(soon);
-            self.since = self.time_in(0);
-        }
-        self.has_sent = true;
     }
 
     /// Sends a datagram by the socket, and counts it if datagrams are counted. Returns whether the
@@ -279,10 +232,12 @@ impl<H: Clock + Files + AllocGlobal> Wire for UdpWire<'_, H> {
     // Nothing is known of what the system does with a datagram.
     ghost traffic = { λ _. None };
 
-    // A node that has nothing to do sends Asks alone.
+    // A node that has nothing to do sends Asks alone. The first other datagram of a rest may cut it
+    // short.
     fn send(&mut self, to: u8, bytes: &[u8]) -> bool {
-        if bytes.get(KIND) != Some(&ASK) {
-            self.note_sent();
+        if !self.rest.has_sent() && !is_ask(bytes) {
+            let now = self.now();
+            self.rest.note_sent(now);
         }
         if to == self.node && self.own.push(bytes) {
             return true;
@@ -312,41 +267,33 @@ impl<H: Clock + Files + AllocGlobal> Wire for UdpWire<'_, H> {
 impl<H: Clock + Files + AllocGlobal> RestingWire for UdpWire<'_, H> {
     /// Begins a rest, which is as long as the pace of the node says.
     fn begin_rest(&mut self, front: u32) {
-        let has_learned = front > self.front;
-        let learned = if has_learned { Some(self.took()) } else { None };
-        self.pace = self.pace.next(learned, self.has_sent);
-        self.since = if self.has_sent { self.time_in(0) } else { None };
-        self.front = front;
-        self.has_sent = false;
-        let rest = self.pace.rest;
-        self.begun = self.time_in(0);
-        self.until = self.time_in(rest);
+        let now = self.now();
+        self.rest.begin(now, front);
     }
 
     fn note_learned(&mut self) {
-        self.has_sent = false;
-        let least = Duration::from_millis(self.pace.least(self.size()));
-        let soon = self.begun.and_then(|begun| begun.checked_add(least));
-        self.until = self.until.min(soon);
+        let size = self.size();
+        self.rest.note_learned(size);
     }
 
     fn is_over(&self) -> bool {
-        self.left().is_none()
+        self.rest.left(self.now()).is_none()
     }
 
-    /// Waits for a datagram, unless one of the node's own is there. All that were in the socket
-    /// have been received.
+    /// Waits for a datagram, unless one of the node's own is there.
     fn wait(&mut self) -> Waited {
         if !self.own.is_empty() {
             return Waited::Datagram;
         }
-        match self.left() {
+        match self.rest.left(self.now()) {
             Some(left) if self.watch.wait(left) => Waited::Keyboard,
             Some(_) => Waited::Datagram,
             None => Waited::Over,
         }
     }
+}
 
+impl<H: Clock + Files + AllocGlobal> CountedWire for UdpWire<'_, H> {
     fn drops(&self) -> Drops {
         self.drops
     }
@@ -357,7 +304,7 @@ impl<H: Clock + Files + AllocGlobal> RestingWire for UdpWire<'_, H> {
 
     fn take_trace_loss(&mut self) -> bool {
         match &mut self.trace {
-            Some(trace) => trace.is_first_loss(),
+            Some(trace) => trace.take_loss(),
             None => false,
         }
     }

@@ -15,7 +15,7 @@ use Rattle.group_node.specs.States.{NodeState}
 use Rattle.group_wire.specs.declared.answers.Received.{Received}
 use Rattle.group_wire.specs.declared.answers.Received.TheVariants as answer
 use Rattle.group_wire.specs.Traffic.{Receives, Traffic, grown, handed, letters_of}
-use Rattle.group_wire.specs.Arrivals.{Arrival, Ending, Fate, Hears, NoneCame, GoesOn, Refuses, IsFateOf, Spells, heard_of, loss_of, lost_of, heard_message, received}
+use Rattle.group_wire.specs.Arrivals.{Arrival, Ending, Fate, Hears, GoesOn, Refuses, IsFateOf, Spells, heard_of, loss_of, lost_of, heard_message, received}
 use Rattle.group_wire.specs.Turns.{FailsAtEnd, HearsSome, IsOne, IsWireTurn, TellsOfOne, answer_of}
 use Rattle.group_wire.specs.Doings.{after_fate, after_heard, hearing, receives, ticked_if, ticking, transfers_of}
 use Rattle.std.specs.List.{cons_option}

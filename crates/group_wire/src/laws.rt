@@ -1,11 +1,12 @@
 //! Laws of the deeds of a node on its wire, as facts about the definitions alone.
-ghost use Rattle.std.specs.Prelude.{◌≡◌, ◌≢◌, ◌++◌, [], ◌∷◌, ℕ, length, List, Option, Some};
+ghost use Rattle.std.specs.Prelude.{◌≡◌, ◌≢◌, ◌++◌, [], ◌∷◌, ℕ, length, List, None, Option, Some};
 ghost use Rattle.pcode_file.specs.Parts.{Parts};
 ghost use Rattle.paxos_msg.specs.declared.message.Body.TheVariants.{Ask};
 ghost use Rattle.paxos_msg.specs.Batches.{Msg, Record};
 ghost use Rattle.paxos_acceptor.specs.declared.me.Me.{Me};
 ghost use Rattle.group_node.specs.Deeds.{Campaign, Crash, Deed, Hear, Idle, Press, Release, Run, Start, Tick};
 ghost use Rattle.group_protocol.specs.Known.{next_serial};
+ghost use Rattle.group_protocol.specs.Protocol.{on_message};
 ghost use Rattle.group_protocol.specs.ProposerRows.{last_round};
 ghost use Rattle.group_node.specs.States.{NodeState};
 ghost use Rattle.group_wire.specs.Arrivals.{Spells};
@@ -69,12 +70,15 @@ pub fn wrong_times()
     ensures crashes { (me : Me) (w v : Running) (d : Doing) → ¬ DoesOnWire me w Crash d v }
 {}
 
-/// Ends that no process has. No save fails at an Ask, a tick, a typed byte, a run or a release, so
-/// no process ends there by one; and where one fails, nothing is sent. A process does not start
-/// over a record whose starts are spent, and without a deed its node is the one that started.
+/// Ends that no process has. No save fails at a message whose response saves nothing, as at an Ask,
+/// nor at a tick, a typed byte, a run or a release, so no process ends there by one; and where one
+/// fails, nothing is sent. A process does not start over a record whose starts are spent, and
+/// without a deed its node is the one that started.
 pub fn wrong_ends()
     ensures fails_at_an_ask { (me : Me) (w : Running) (sender from : ℕ) (d : Doing)
         → ¬ FailsDeed me w (Hear (record { sender = sender; body = Ask from })) d }
+    ensures fails_unsaved { (me : Me) (w : Running) (m : Msg) (d : Doing)
+        → (on_message w.known m.sender m.body).saves ≡ None → ¬ FailsDeed me w (Hear m) d }
     ensures fails_at_a_tick { (me : Me) (w : Running) (d : Doing) → ¬ FailsDeed me w Tick d }
     ensures fails_at_a_press { (me : Me) (w : Running) (byte : ℕ) (d : Doing)
         → ¬ FailsDeed me w (Press byte) d }

@@ -144,7 +144,7 @@ impl<'a, S: Store> Host<'a, S> {
 
     /// Takes a turn, as `turn` says.
     fn take_turn<T: Wire>(&mut self, wire: &mut T) -> Result<Turned, NodeFault>
-        ensures { HasTurned S.kind self.old self.new (T.traffic wire.old)
+        ensures turned { HasTurned S.kind self.old self.new (T.traffic wire.old)
             (T.traffic wire.new) result }
     {
         let lost = self.hear_all(wire)?;

@@ -9,7 +9,7 @@ mod sound;
 mod worlds;
 mod wrong;
 
-pub use logs::{a_written_log, wrong_events, wrong_logs, wrong_times};
+pub use logs::{a_written_log, wrong_clocks, wrong_events, wrong_logs};
 pub use nine::{wrong_consoles, wrong_keys, wrong_shown, wrong_values};
 pub use order::{deeds_keep_order, ordered_worlds_are_orderly, possible, wrong_orders};
 pub use processes::{

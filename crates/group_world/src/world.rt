@@ -16,6 +16,7 @@ use crate::laws::{
 use group_node::{Node, Packet};
 use paxos_acceptor::MemoryStore;
 use paxos_msg::laws::{agreement, sent_only_grows};
+use paxos_msg::limits::MOST_NODES;
 use paxos_msg::{Group, Record, Value};
 use pcode_ops::Program;
 use std::alloc::Global;
@@ -68,7 +69,7 @@ impl<'a> World<'a> {
     {
         deeds_keep_it_sound();
         deeds_keep_order();
-        if size % 2 == 0 || size > 9 {
+        if size % 2 == 0 || size > MOST_NODES {
             return Err(WorldFault::Size);
         }
         match GroupState::new(alloc, program, Group { size, session }) {

@@ -10,7 +10,7 @@ use Rattle.machine_run.specs.declared.run.IoFault.{IoFault}
 use Rattle.machine_run.specs.declared.run.IoFault.TheVariants as io
 use Rattle.machine_run.specs.declared.run.Finish.{Finish}
 use Rattle.machine_run.specs.Streams.{Streams, HasMoved, HasNoFault, HasReadFault}
-use Rattle.machine_run.specs.Run.{LosesByte, HasRunOn, IsRunOver, Rests, RunsFrom, Turns, Reached}
+use Rattle.machine_run.specs.Run.{LosesByte, HasRunOn, IsRunOver, IsOverAfter, RunsFrom, Stretches, Reached}
 
 -- the laws of runs that a run rests on
 pub record Laws : Type 0 where
@@ -51,7 +51,7 @@ module _ {p : Parts} {from mid : Streams} {n : ℕ} {s : State} (laws : Laws) (r
   quiet_on : {t : State} (k : ℕ) → AreQuiet p k s t → Reached p from mid (n + k) t
   quiet_on k h = grind arith
 
-  -- a turn that takes and writes nothing
+  -- a stretch that takes and writes nothing
   idle : {to : Streams} → HasMoved mid to [] [] → HasNoFault mid to → Reached p from to n s
   idle h f = grind (arith, append-nil, moved_on r.moved h)
 
@@ -74,8 +74,8 @@ module _ {p : Parts} {from mid : Streams} {n : ℕ} {s : State} (laws : Laws) (r
   pub done : {steps : ℕ} (f : Finish) → IsRunOver p mid.reader r.input n steps f → RunsFrom p from mid steps (Ok f)
   done f h = record { input = r.input; n = n; run = ran; moved = moved; faultless = r.faultless; over = h }
 
-  -- the run is over with its last turn, which made m of at most `most` steps
-  over : (steps m most : ℕ) (f : Finish) → Rests p most m s mid.reader f → n + most ≡ steps + m
+  -- the run is over with its last stretch, which made m of at most `most` steps
+  over : (steps m most : ℕ) (f : Finish) → IsOverAfter p most m s mid.reader f → n + most ≡ steps + m
       → IsRunOver p mid.reader r.input n steps f
   over steps m most f h all = grind (arith, nat_tests)
 
@@ -99,26 +99,26 @@ module _ {p : Parts} {from mid : Streams} {n : ℕ} {s : State} (laws : Laws) (r
       → RunsFrom p from to steps (Err io.Read)
   unread w h f less = grind (arith, append-nil, ran, there, moved_on moved h, w.waits r.input r.output)
 
--- ---- the same by what a turn of the run says
+-- ---- the same by what a stretch of the run says
 
 module _ {p : Parts} {from mid : Streams} {n : ℕ} {old : State} (laws : Laws) (r : Reached p from mid n old) (to : Streams)
     (new : State) where
-  pub next_turn : (m most : ℕ) → Turns p most old new mid to (Ok (m, None)) → Reached p from to (n + m) new
-  next_turn m most (k, u, took, wrote, is, few, quiet, makes, moved, faultless) =
+  pub next_stretch : (m most : ℕ) → Stretches p most old new mid to (Ok (m, None)) → Reached p from to (n + m) new
+  next_stretch m most (k, u, took, wrote, is, few, quiet, makes, moved, faultless) =
       grind (arith, one_more laws (quiet_on laws r k quiet) makes moved faultless)
 
-  pub last_turn : {steps : ℕ} (m most : ℕ) (f : Finish) → Turns p most old new mid to (Ok (m, Some f)) → n + most ≡ steps
+  pub last_stretch : {steps : ℕ} (m most : ℕ) (f : Finish) → Stretches p most old new mid to (Ok (m, Some f)) → n + most ≡ steps
       → RunsFrom p from to steps (Ok f)
-  last_turn m most f (quiet, rests, moved, faultless) all =
+  last_stretch m most f (quiet, rests, moved, faultless) all =
       let last = idle laws (quiet_on laws r m quiet) moved faultless in
       done laws last f (over laws last _ m most f rests (omega arith))
 
-  pub failed_turn : {q : Parts} {steps : ℕ} (most : ℕ) (e : IoFault) → q ≡ p → Turns q most old new mid to (Err e) → n + most ≡ steps
+  pub failed_stretch : {q : Parts} {steps : ℕ} (most : ℕ) (e : IoFault) → q ≡ p → Stretches q most old new mid to (Err e) → n + most ≡ steps
       → RunsFrom p from to steps (Err e)
-  failed_turn most io.Memory same t all = absurd t
-  failed_turn most io.Read same t all =
+  failed_stretch most io.Memory same t all = absurd t
+  failed_stretch most io.Read same t all =
       let (k, few, quiet, waits, moved, fault) = rw same at t in
       unread laws (quiet_on laws r k quiet) waits moved fault (omega arith)
-  failed_turn most io.Write same t all =
+  failed_stretch most io.Write same t all =
       let (k, u, few, quiet, loses) = rw same at t in
       lost laws (quiet_on laws r k quiet) loses (omega arith)

@@ -1,3 +1,4 @@
 pub mod Streams
 pub mod Files
 pub mod Run
+pub mod Commands

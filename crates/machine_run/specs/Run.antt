@@ -89,7 +89,7 @@ RunsProgram known p reader writer steps result =
     RunsFrom p (known reader.entry.now writer.entry.now) (known reader.exit.now writer.exit.now)
     steps result
 
--- ---- one turn of the run, as the machine's state sees it
+-- ---- one stretch of the run, as the machine's state sees it
 
 -- The reason of the machine's why no step is made.
 abbrev pub HaltsFor : Parts → State → Option (List ℕ) → Finish → Type 0
@@ -98,12 +98,12 @@ HaltsFor p s r (finish.Error e) = EndsBy p s e × (e ≢ ends.Normal)
 HaltsFor p s r finish.Waits = WaitsOn p s × IsAtEnd r
 HaltsFor p s r finish.Steps = ⊥
 
--- A turn of at most `most` steps that is over after n: all were made, or the machine makes none.
-abbrev pub Rests : Parts → ℕ → ℕ → State → Option (List ℕ) → Finish → Type 0
-Rests p most n s r finish.Steps = n ≡ most
-Rests p most n s r finish.Normal = (n < most) × HaltsFor p s r finish.Normal
-Rests p most n s r (finish.Error e) = (n < most) × HaltsFor p s r (finish.Error e)
-Rests p most n s r finish.Waits = (n < most) × HaltsFor p s r finish.Waits
+-- A stretch of at most `most` steps that is over after n: all were made, or the machine makes none.
+abbrev pub IsOverAfter : Parts → ℕ → ℕ → State → Option (List ℕ) → Finish → Type 0
+IsOverAfter p most n s r finish.Steps = n ≡ most
+IsOverAfter p most n s r finish.Normal = (n < most) × HaltsFor p s r finish.Normal
+IsOverAfter p most n s r (finish.Error e) = (n < most) × HaltsFor p s r (finish.Error e)
+IsOverAfter p most n s r finish.Waits = (n < most) × HaltsFor p s r finish.Waits
 
 -- A byte that could not be written, of a step that takes the byte that was read, if one was.
 pub record LosesByte (p : Parts) (old new : State) (from to : Streams) : Type 0 where
@@ -113,23 +113,23 @@ pub record LosesByte (p : Parts) (old new : State) (from to : Streams) : Type 0 
   pub moved : HasMoved from to (option_to_list took) []
   pub fault : HasWriteFault from to
 
--- One turn of the run, of at most `most` steps.
+-- One stretch of the run, of at most `most` steps.
 -- Some steps read and write nothing. Then one takes or writes a byte, or the run is over, or a
 -- fault ends it.
-abbrev pub Turns : Parts → ℕ → State → State → Streams → Streams
+abbrev pub Stretches : Parts → ℕ → State → State → Streams → Streams
     → Result (ℕ × Option Finish) IoFault → Type 0
-Turns p most old new from to (Ok (n, None)) =
+Stretches p most old new from to (Ok (n, None)) =
     (k : ℕ) × (mid : State) × (took : List ℕ) × (wrote : List ℕ) × (n ≡ k + 1) × (k < most)
     × AreQuiet p k old mid × Makes p mid new took wrote
     × HasMoved from to took wrote × HasNoFault from to
-Turns p most old new from to (Ok (n, Some f)) =
-    AreQuiet p n old new × Rests p most n new to.reader f × HasMoved from to [] []
+Stretches p most old new from to (Ok (n, Some f)) =
+    AreQuiet p n old new × IsOverAfter p most n new to.reader f × HasMoved from to [] []
     × HasNoFault from to
-Turns p most old new from to (Err io.Memory) = ⊥
-Turns p most old new from to (Err io.Read) =
+Stretches p most old new from to (Err io.Memory) = ⊥
+Stretches p most old new from to (Err io.Read) =
     (k : ℕ) × (k < most) × AreQuiet p k old new × WaitsOn p new × HasMoved from to [] []
     × HasReadFault from to
-Turns p most old new from to (Err io.Write) =
+Stretches p most old new from to (Err io.Write) =
     (k : ℕ) × (mid : State) × (k < most) × AreQuiet p k old mid × LosesByte p mid new from to
 
 -- The state after n steps on some input, without a fault.

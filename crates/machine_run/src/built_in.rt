@@ -2,6 +2,7 @@
 use crate::commands::run_bytes;
 use crate::refusal::MachineRefusal;
 use crate::run::Finish;
+use crate::streams::Counting;
 use std::alloc::Global;
 use std::io::Write;
 
@@ -27,6 +28,8 @@ pub fn run_built_in<W: Write>(
     steps: u32,
     writer: &mut W,
 ) -> Result<Finish, MachineRefusal> {
-    let mut nothing: &[u8] = &[];
-    run_bytes(alloc, &built_in(), steps, &mut nothing, writer)
+    let nothing: &[u8] = &[];
+    let mut reader = Counting::new(nothing);
+    let mut writer = Counting::new(writer);
+    run_bytes(alloc, &built_in(), steps, &mut reader, &mut writer)
 }

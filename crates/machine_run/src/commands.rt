@@ -1,41 +1,66 @@
 //! The work of the commands `check`, `list` and `run` on a code file.
 ghost use Rattle.std.specs.Prelude.{IfErr, IfOk};
 ghost use Rattle.machine_run.specs.Files.{IsFileRefusal, IsLoadedProgram};
+ghost use Rattle.machine_run.specs.Commands.{RunsBytes, RunsFile, RunsLoaded};
+ghost use Rattle.machine_run.specs.Streams.{streams};
 
 use crate::files::read_file;
 use crate::loading::load;
 use crate::refusal::MachineRefusal;
 use crate::run::{Finish, IoFault, run_program};
-use crate::streams::Counting;
+use crate::streams::{ByteReader, ByteWriter};
 use pcode_ops::Program;
 use std::alloc::Global;
-use std::io::{self, BufWriter, Read, Write};
+use std::io::{self, BufWriter, Write};
 use std::rt::Files;
 
-/// Runs the program of a code file's bytes, for at most `steps` steps.
-pub fn run_bytes<R: Read, W: Write>(
+/// Runs a program, with the answer of a command.
+fn run_loaded<R: ByteReader, W: ByteWriter>(
+    alloc: Global,
+    program: &Program,
+    steps: u32,
+    reader: &mut R,
+    writer: &mut W,
+) -> Result<Finish, MachineRefusal>
+    ensures runs { RunsLoaded (streams R.remaining R.read_faults W.contents W.write_faults)
+        program.now reader writer steps result }
+{
+    match run_program(alloc, reader, writer, program, steps) {
+        Ok(finish) => Ok(finish),
+        Err(fault) => Err(MachineRefusal::Run(fault)),
+    }
+}
+
+/// Runs the program of a code file's bytes, for at most `steps` steps, as `run_program` does. If
+/// `load` refuses the bytes, nothing is read or written.
+pub fn run_bytes<R: ByteReader, W: ByteWriter>(
     alloc: Global,
     bytes: &[u8],
     steps: u32,
     reader: &mut R,
     writer: &mut W,
-) -> Result<Finish, MachineRefusal> {
+) -> Result<Finish, MachineRefusal>
+    ensures runs { RunsBytes (streams R.remaining R.read_faults W.contents W.write_faults)
+        bytes.now reader writer steps result }
+{
     let program = load(alloc, bytes)?;
-    let mut reader = Counting::new(reader);
-    let mut writer = Counting::new(writer);
-    run_program(alloc, &mut reader, &mut writer, &program, steps).map_err(MachineRefusal::Run)
+    run_loaded(alloc, &program, steps, reader, writer)
 }
 
-/// Runs the program of a code file for at most `steps` steps.
-pub fn run_file<H: Files + AllocGlobal, R: Read, W: Write>(
+/// Runs the program of a code file for at most `steps` steps, as `run_program` does. If the file is
+/// refused, as by `load_file`, nothing is read or written.
+pub fn run_file<H: Files + AllocGlobal, R: ByteReader, W: ByteWriter>(
     rt: &H,
     file: &str,
     steps: u32,
     reader: &mut R,
     writer: &mut W,
-) -> Result<Finish, MachineRefusal> {
-    let bytes = read_file(rt, file)?;
-    run_bytes(rt.alloc(), bytes.as_slice(), steps, reader, writer)
+) -> Result<Finish, MachineRefusal>
+    ensures runs { RunsFile (streams R.remaining R.read_faults W.contents W.write_faults)
+        reader writer steps result }
+{
+    let program = load_file(rt, file)?;
+    run_loaded(rt.alloc(), &program, steps, reader, writer)
 }
 
 /// Returns the program of a code file. Fails if the file can't be read (`File`), if memory runs

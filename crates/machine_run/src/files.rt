@@ -56,7 +56,7 @@ pub fn read_whole<R: Read>(
             Err(ReadFault) => return Err(IoFault::Read),
         }
     }
-    // Each turn has added a byte at least.
+    // Each pass has added a byte at least.
     unreachable!()
 }
 

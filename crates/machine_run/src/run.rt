@@ -3,7 +3,7 @@ ghost use Rattle.std.specs.Prelude.{◌≡◌, ◌≤◌, ℕ, List, [], ◌∷�
 ghost use Rattle.std.specs.Io.KnownBytes.{Keeps, Appends};
 ghost use Rattle.base.specs.Faults.{HasRisen};
 ghost use Rattle.pcode_machine.specs.Turns.{Makes, WaitsOn};
-ghost use Rattle.machine_run.specs.Run.{Turns, RunsProgram, finish_of};
+ghost use Rattle.machine_run.specs.Run.{RunsProgram, Stretches, finish_of};
 ghost use Rattle.machine_run.specs.Streams.{streams};
 
 use crate::streams::{ByteReader, ByteWriter, ReadFault, WriteFault};
@@ -75,14 +75,14 @@ fn feed<W: ByteWriter>(
 
 /// Runs at most `most` steps, until one takes or writes a byte or the run is over. Returns how many
 /// it ran, and the finish if the run is over.
-fn turn<R: ByteReader, W: ByteWriter>(
+fn stretch<R: ByteReader, W: ByteWriter>(
     reader: &mut R,
     writer: &mut W,
     machine: &mut Machine<'_>,
     most: u32,
 ) -> Result<(u32, Option<Finish>), IoFault>
     ensures program { machine.new.program ≡ machine.old.program }
-    ensures turn { Turns machine.old.program most machine.old.state machine.new.state
+    ensures stretch { Stretches machine.old.program most machine.old.state machine.new.state
         (streams R.remaining R.read_faults W.contents W.write_faults reader.old writer.old)
         (streams R.remaining R.read_faults W.contents W.write_faults reader.new writer.new)
         result }
@@ -135,7 +135,7 @@ pub fn run_program<R: ByteReader, W: ByteWriter>(
     };
     let mut left = steps;
     while left > 0 {
-        let (made, finish) = turn(reader, writer, &mut machine, left)?;
+        let (made, finish) = stretch(reader, writer, &mut machine, left)?;
         if let Some(finish) = finish {
             return Ok(finish);
         }

@@ -1,12 +1,11 @@
 //! The command `net`: a group in one process, on loopback UDP, over stores in memory.
-ghost use Rattle.std.specs.Prelude.{◌≡◌, ◌⊎◌, IfErr};
-ghost use Rattle.group_udp.specs.Refusals.{IsCampaignRefusal, IsOpenRefusal, no_memory};
-ghost use Rattle.net_run.specs.Refusals.{IsNetRefusal, IsPressRefusal, IsShownTurnRefusal};
-ghost use Rattle.machine_run.specs.declared.refusal.MachineRefusal.{MachineRefusal};
+ghost use Rattle.std.specs.Prelude.{◌⊎◌, IfErr};
+ghost use Rattle.group_udp.specs.Refusals.{IsOpenRefusal};
+ghost use Rattle.net_run.specs.Refusals.{IsFileOrInputRefusal, IsNetRefusal, IsPressRefusal, IsShownCampaignRefusal, IsShownTurnRefusal};
 
 use crate::shown::ShownNode;
 use group_log::{Log, Note};
-use group_node::{Config, NodeFault};
+use group_node::Config;
 use group_udp::{GroupFault, UdpWire, Watch, bind};
 use machine_run::{IoFault, load_file, read_whole};
 use mio::net::UdpSocket;
@@ -96,12 +95,11 @@ fn nodes<'a, H: Clock + Files + AllocGlobal>(
     Ok(nodes)
 }
 
-/// Has node 1 begin a ballot.
+/// Has node 1 campaign.
 fn campaign_first<H: Clock + Files + AllocGlobal>(
     nodes: &mut [ShownNode<'_, H>],
 ) -> Result<(), GroupFault>
-    ensures others { IfErr result (λ e. (e ≡ GroupFault.Node NodeFault.Stopped)
-        ⊎ IsCampaignRefusal e) }
+    ensures others { IfErr result IsShownCampaignRefusal }
 {
     match nodes.first_mut() {
         Some(node) => node.campaign(),
@@ -149,11 +147,11 @@ fn play<H: Clock + Files + AllocGlobal, E: Write>(
     input: &[u8],
     errors: &mut E,
 ) -> Result<(), GroupFault>
-    ensures others { IfErr result (λ e. IsPressRefusal e ⊎ (e ≡ no_memory)) }
+    ensures others { IfErr result (λ e. IsPressRefusal e ⊎ IsShownTurnRefusal e) }
 {
-    let mut rest = input;
+    let mut left = input;
     for _ in 0..plan.turns {
-        press_first(nodes, &mut rest)?;
+        press_first(nodes, &mut left)?;
         turn_all(rt, nodes, errors, plan.is_logged)?;
     }
     Ok(())
@@ -196,10 +194,9 @@ fn net<H: Net + Files + Clock + AllocGlobal, W: Write, E: Write>(
     write_all(writer, nodes.as_slice()).or(Err(GroupFault::from(IoFault::Write)))
 }
 
-/// Runs the program of a code file in a group in this process, as the plan says. Fails only with a
-/// size or number that no group has, if a socket or memory is missing, at a refused start,
-/// campaign, typed byte or turn, at a failed write, or with another `Machine` refusal, as for the
-/// file or the input.
+/// Runs the program of a code file in a group in this process, as the plan says. Fails only if the
+/// file is refused, the input cannot be read, no group has this size, a socket or memory is
+/// missing, a node refuses its start, a campaign, a typed byte or a turn, or a write fails.
 ///
 /// The input is typed at node 1. The code file is looked at first, then the size, then the input.
 /// `errors` gets a note where a node's program ends, if the plan asks for it.
@@ -211,8 +208,7 @@ pub fn net_file<H: Files + Net + Clock + AllocGlobal, R: Read, W: Write, E: Writ
     writer: &mut W,
     errors: &mut E,
 ) -> Result<(), GroupFault>
-    ensures others { IfErr result (λ e. IsNetRefusal e ⊎ ((refusal : MachineRefusal)
-        × (e ≡ GroupFault.Machine refusal))) }
+    ensures others { IfErr result (λ e. IsNetRefusal e ⊎ IsFileOrInputRefusal e) }
 {
     let program = load_file(rt, file)?;
     Config::new(1, plan.size, SESSION)?;

@@ -1,18 +1,19 @@
 //! A node of a group in one process, whose output is shown on its console.
-ghost use Rattle.std.specs.Prelude.{◌≡◌, ◌<◌, ◌⊎◌, ◌++◌, ◌∷◌, [], length, IfErr, None, OnErr, OnOk, Option};
+ghost use Rattle.std.specs.Prelude.{◌≡◌, ◌<◌, ◌++◌, ◌∷◌, [], length, IfErr, None, OnErr, Ok, OnOk, Option};
 ghost use Rattle.group_node.specs.NodeCalls.{running, unreleased_by};
 ghost use Rattle.group_node.specs.States.{input};
-ghost use Rattle.group_node.specs.Deeds.{Run};
+ghost use Rattle.group_node.specs.Deeds.{Campaign, Run};
 ghost use Rattle.group_wire.specs.declared.limits.TheConstants.{TURN_STEPS};
 ghost use Rattle.group_wire.specs.Doings.{HasActed};
+ghost use Rattle.group_wire.specs.Presses.{HasPressed};
 ghost use Rattle.group_wire.specs.Traffic.{Traffic};
 ghost use Rattle.group_wire.specs.Turns.{released_of};
-ghost use Rattle.group_udp.specs.Refusals.{IsCampaignRefusal, IsRunRefusal, no_memory};
-ghost use Rattle.net_run.specs.Refusals.{IsPressRefusal, IsShownTurnRefusal};
+ghost use Rattle.group_udp.specs.Refusals.{IsStartRefusal, no_memory};
+ghost use Rattle.net_run.specs.Refusals.{IsShownCampaignRefusal, IsPressRefusal, IsShownTurnRefusal};
 ghost use Rattle.net_run.specs.Shown.{HasShownAll, ReleasesFirst, ShowsReleased};
 
 use group_log::end_to_note;
-use group_node::{Config, Console, NodeFault, Offer};
+use group_node::{Config, Console, Offer};
 use group_udp::{GroupFault, RestingWire, UdpWire};
 use group_wire::Host;
 use group_wire::laws::deeds_go_on;
@@ -97,7 +98,7 @@ impl<'a, H: Clock + Files + AllocGlobal> ShownNode<'a, H> {
         config: Config,
         wire: UdpWire<'a, H>,
     ) -> Result<ShownNode<'a, H>, GroupFault>
-        ensures others { IfErr result IsRunRefusal }
+        ensures others { IfErr result IsStartRefusal }
     {
         let store = MemoryStore::new(Record::new(alloc));
         let host = Host::start(alloc, program, config, store)?;
@@ -110,16 +111,20 @@ impl<'a, H: Clock + Files + AllocGlobal> ShownNode<'a, H> {
         })
     }
 
-    /// Begins a ballot of the node's own.
+    /// Has the node campaign.
     pub fn campaign(&mut self) -> Result<(), GroupFault>
-        ensures others { IfErr result (λ e. (e ≡ GroupFault.Node NodeFault.Stopped)
-            ⊎ IsCampaignRefusal e) }
+        ensures acts { OnOk result
+            (HasActed self.old.host self.new.host None None (Campaign ∷ [])) }
+        ensures others { IfErr result IsShownCampaignRefusal }
     {
         Ok(self.host.campaign(&mut self.wire)?)
     }
 
-    /// Types as many of the bytes as there is room for, and takes them off the front.
+    /// Types as many of the bytes as there is room for, and takes them off the front
+    /// (`HasPressed`).
     pub fn press(&mut self, bytes: &mut &[u8]) -> Result<(), GroupFault>
+        ensures pressed { OnOk result
+            (HasPressed self.old.host self.new.host bytes.old.now bytes.new.now (Ok tt)) }
         ensures others { IfErr result IsPressRefusal }
     {
         Ok(self.host.press(bytes)?)
@@ -134,9 +139,11 @@ impl<'a, H: Clock + Files + AllocGlobal> ShownNode<'a, H> {
         show_all(&mut self.host, &mut self.console)
     }
 
-    /// Takes a turn of the node, once a datagram is there: its last tick has left it one. Then puts
-    /// all output that waits on the console. Returns the end of the program, if this is the first
-    /// turn that came to it.
+    /// Waits until a datagram is there, or the rest of the node is over. Then takes a turn of it,
+    /// and puts all output that waits on the console. Returns the end of the program, if this is
+    /// the first turn that came to it.
+    ///
+    /// From the second turn on a datagram is there: the tick of the last turn has left one.
     pub fn turn(&mut self) -> Result<Option<End>, GroupFault>
         ensures acts { OnOk result
             (HasActed self.old.host self.new.host None None (Run TURN_STEPS ∷ [])) }

@@ -12,7 +12,9 @@ use Rattle.group_protocol.specs.declared.fault.NodeFault.TheVariants.{SerialSpen
 use Rattle.group_udp.specs.declared.fault.GroupFault.{GroupFault}
 use Rattle.group_udp.specs.declared.fault.GroupFault.TheVariants as group
 use Rattle.node_run.specs.Going.{Around, CampaignsIf, FailsAt, HasEnded, HasGone, HasGoneOn, HasReason, around, planned}
-use Rattle.group_udp.specs.Prompts.{IsPrompted, Remaining, before_gift, byte_in, campaigns_in, turns_in, bytes_in, with_gift}
+use Rattle.group_udp.specs.Refusals.{IsCampaignRefusal}
+use Rattle.group_udp.specs.Prompts.{Remaining, before_gift, byte_in, campaigns_in, bytes_in, with_gift}
+use Rattle.node_run.specs.Prompted.{IsPrompted, turns_in}
 
 -- ---- what a keyboard has left
 
@@ -159,7 +161,7 @@ pub played_ended : {S : Type 0} (laws : GoOn S) {old mid new : NodeState S} {fro
     → made < turns → HasGoneOn [] old mid from via made → HasGone {T = Unit {0}} [] mid new via to 1 (Err e)
     → HasGone {T = Unit {0}} [] old new from to turns (Err e)
 played_ended laws {made = made} more before (none, is, done, few, h) =
-    let same : none ≡ [] = elim is [ inl is ↦ is | inr is ↦ is ] in
+    let same : none ≡ [] = elim is [ inl is ↦ is | inr other ↦ other.0 ] in
     ([], inl refl, made + done, omega (arith, more, few), ended_then laws before (rw same at h))
 
 -- a refusal that no save caused ends what was done
@@ -176,14 +178,14 @@ pub begun_by : {S : Type 0} (laws : GoOn S) {old mid : NodeState S} {t u : Optio
     → HasGone [] mid new (around u keys) to turns result → HasGone first old new (around t keys) to turns result
 begun_by laws new keys to turns (Ok x) begun h = rw zero-add at (gone_then laws (gone_unprompted begun refl) h)
 begun_by laws {first = first} new keys to turns (Err e) begun (none, is, done, few, h) =
-    let same : none ≡ [] = elim is [ inl is ↦ is | inr is ↦ is ] in
+    let same : none ≡ [] = elim is [ inl is ↦ is | inr other ↦ other.0 ] in
     (first, inl refl, done, few, rw zero-add at (ended_then laws (gone_unprompted begun refl) (rw same at h)))
 
 -- a campaign of the plan that was refused
 pub campaign_refused : {S : Type 0} {old new : NodeState S} {t u : Option Traffic} {keys : Option Remaining} {asked : Bool} {turns : ℕ}
-    {e : GroupFault} → CampaignsIf asked old new t u (Err e)
+    {e : GroupFault} → CampaignsIf asked old new t u (Err e) → IsCampaignRefusal e
     → HasGone {T = Unit {0}} (planned asked) old new (around t keys) (around u keys) turns (Err e)
-campaign_refused {old = old} {new} {t} {u} {asked = asked} {e = e} (is, fails, acts, due) = elim (is_store e) [
+campaign_refused {old = old} {new} {t} {u} {asked = asked} {e = e} (is, fails, acts, due) refusal = elim (is_store e) [
   | inl store ↦ (
     planned asked,
     inl refl,
@@ -191,5 +193,5 @@ campaign_refused {old = old} {new} {t} {u} {asked = asked} {e = e} (is, fails, a
     omega arith,
     ended_unprompted refl (λ s. rw is (fails s)) (λ other. absurd (other store)) due,
   )
-  | inr other ↦ ([], inr refl, 0, omega arith, ended_unprompted refl (λ s. absurd (other s)) acts due)
+  | inr other ↦ ([], inr (refl, refusal), 0, omega arith, ended_unprompted refl (λ s. absurd (other s)) acts due)
 ]

@@ -1,6 +1,6 @@
 mod Going
 mod Starting
-mod Pressing
+mod KeyboardAnswers
 mod Releasing
 mod Writing
 mod Running

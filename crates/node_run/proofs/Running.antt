@@ -1,5 +1,5 @@
 -- A whole run of a node, by its answer.
-use Rattle.std.proofs.Common.{◌≡◌, ◌⊎◌, inl, inr, ℕ, List, Option, IfErr, IsErrOf, OnOk, Result, Ok, Err, refl, sym, ap, subst, arith}
+use Rattle.std.proofs.Common.{◌≡◌, inl, inr, ℕ, List, Option, IfErr, IsErrOf, OnOk, Result, Ok, Err, refl, sym, ap, subst, arith}
 use Rattle.std.proofs.lemmas.Grind.{common_steps}
 use Rattle.std.proofs.lemmas.List.{drop_all}
 use Rattle.std.specs.declared.net.socket_addr.SocketAddr.{SocketAddr}
@@ -11,6 +11,7 @@ use Rattle.group_node.specs.States.{NodeState, input}
 use Rattle.group_node.specs.NodeCalls.{running}
 use Rattle.group_wire.specs.Starts.{HasStarted}
 use Rattle.group_udp.specs.declared.fault.GroupFault.{GroupFault}
+use Rattle.node_run.specs.declared.cycles.RunPlan.{RunPlan}
 use Rattle.node_run.specs.declared.node.NodePlan.{NodePlan}
 use Rattle.node_run.specs.Ends.{RunsOpened, RunsWith, keyboard_at_first}
 use Rattle.node_run.specs.Going.{Around, HasGone, planned}
@@ -27,7 +28,7 @@ written_from : {S : Type 0} (p : Parts) (seen : ℕ) (first last : NodeState S) 
 written_from p seen first last fails c d start replay (wrote, h, appends) = grind (arith, common_steps, h.lost, drop_all)
 
 module _ {S : Type 0} (kind : StoreKind S) (me : Me) (program : Parts)
-    (store : S) (plan : NodePlan) (first last : NodeState S) (from to : Around) (before after : Option (List ℕ))
+    (store : S) (plan : RunPlan) (first last : NodeState S) (from to : Around) (before after : Option (List ℕ))
     (starts : HasStarted kind me program store (Ok first)) (replay : IsReplay (input last.protocol.known) last.progress) where
   pub runs_by : (result : Result (Unit {0}) GroupFault) → HasGone (planned plan.campaigns) first last from to plan.turns result
       → AppendsOutput plan.seen first last (IsErrOf result write_failed) before after
@@ -60,7 +61,7 @@ module _ {S : Type 0} (kind : StoreKind S) (me : Me) (program : Parts)
       | inr other ↦
           ran_on kind me program store first last from.traffic to.traffic starts _ (λ failed. other cc) (h.acts other)
     ];
-    begun = elim is [ inl same ↦ inl same | inr none ↦ inr (refl, none) ];
+    begun = is;
     gift = h.gift;
     given = h.given;
     turns = done;
@@ -76,8 +77,8 @@ module _ {S : Type 0} (kind : StoreKind S) (me : Me) (program : Parts)
 -- ---- over the files and sockets of the system
 
 -- it is typed at the keyboard of the plan
-pub opened : {me : Me} {program : Parts} {plan : NodePlan} (text : List ℕ) {before after : Option (List ℕ)}
+pub opened : {me : Me} {program : Parts} (plan : NodePlan) (text : List ℕ) {before after : Option (List ℕ)}
     {result : Result (Unit {0}) GroupFault} (keys : Option SocketAddr) → plan.keys ≡ keys
     → RunsWith me program plan (keyboard_at_first keys text) before after result → RunsOpened me program plan text before after result
-opened {me} {program} {plan} text {before} {after} {result} keys is h =
+opened {me} {program} plan text {before} {after} {result} keys is h =
     subst (λ k. RunsWith me program plan (keyboard_at_first k text) before after result) (sym is) h

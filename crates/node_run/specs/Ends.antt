@@ -17,7 +17,7 @@ use Rattle.group_udp.specs.declared.fault.GroupFault.TheVariants as group
 use Rattle.node_run.specs.declared.node.NodePlan.{NodePlan}
 use Rattle.node_run.specs.Going.{around}
 use Rattle.group_udp.specs.Prompts.{Remaining}
-use Rattle.group_udp.specs.Refusals.{IsOpenRefusal}
+use Rattle.group_udp.specs.Refusals.{IsOpenRefusal, no_memory}
 use Rattle.node_run.specs.Runs.{RunsOrRefuses}
 
 -- A refusal at which nothing was written.
@@ -31,8 +31,8 @@ RefusesUnwritten why before after result =
 abbrev pub RunsOverFile : Me → Parts → NodePlan → Option Remaining → Option Remaining
     → Option (List ℕ) → Option (List ℕ) → Result (Unit {0}) GroupFault → Type 0
 RunsOverFile me program plan from to before after result =
-    RefusesUnwritten IsOpenRefusal before after result
-    ⊎ RunsOrRefuses file_kind me program (record { me = me; found = None; faults = 0 }) plan
+    RefusesUnwritten (λ e. e ≡ no_memory) before after result
+    ⊎ RunsOrRefuses file_kind me program (record { me = me; found = None; faults = 0 }) plan.run
     (around None from) (around None to) before after result
 
 -- Such a run once its sockets are open, with a keyboard that has this left; or none, since a socket

@@ -1,8 +1,6 @@
 -- What a node does between its start and its end: its deeds, and what it is prompted to do.
 use Rattle.std.specs.Prelude.{◌≡◌, ◌≢◌, ◌≤◌, ◌+◌, ◌⊎◌, ℕ, Bool, true, false, List, [], ◌∷◌, ◌++◌, Option, Result, Ok, Err}
 use Rattle.group_protocol.specs.declared.fault.NodeFault.TheVariants.{PlacesSpent, RoundsSpent, SerialSpent, Store}
-use Rattle.group_node.specs.declared.player.Ran.{Ran}
-use Rattle.group_node.specs.declared.player.Ran.TheVariants.{More, Full}
 use Rattle.group_node.specs.Deeds.{Campaign, Deed}
 use Rattle.group_protocol.specs.Known.{Known, front, next_serial}
 use Rattle.group_protocol.specs.ProposerRows.{last_round}
@@ -12,7 +10,9 @@ use Rattle.group_wire.specs.Doings.{Fails, HasActed}
 use Rattle.group_wire.specs.Traffic.{Traffic}
 use Rattle.group_udp.specs.declared.fault.GroupFault.{GroupFault}
 use Rattle.group_udp.specs.declared.fault.GroupFault.TheVariants as group
-use Rattle.group_udp.specs.Prompts.{IsPrompted, Remaining, with_gift}
+use Rattle.group_udp.specs.Refusals.{IsCampaignRefusal}
+use Rattle.group_udp.specs.Prompts.{Remaining, with_gift}
+use Rattle.node_run.specs.Prompted.{IsPrompted}
 use Rattle.node_run.specs.declared.endpoints.Endpoints.{Endpoints}
 
 -- What is known around a node: what has passed over its wire, and what its keyboard has left.
@@ -65,20 +65,27 @@ pub record HasEnded {S : Type 0} (first : List Deed) (old new : NodeState S) (fr
   pub prompted : IsPrompted gift turns (e ≡ group.Node SerialSpent) prompts
   pub due : HasReason e new.protocol.known
 
--- What a node did, by the answer: so many turns at `Ok`, and at most so many up to a refusal, which
--- may come before the prompts `first`.
+-- What a node did, by the answer: so many turns at `Ok`, and at most so many up to a refusal. That
+-- of a campaign may come before the prompts `first`.
 abbrev pub HasGone : {S T : Type 0} → List Deed → NodeState S → NodeState S → Around → Around → ℕ
     → Result T GroupFault → Type 0
 HasGone first old new from to turns (Ok x) = HasGoneOn first old new from to turns
 HasGone first old new from to turns (Err e) =
-    (begun : List Deed) × ((begun ≡ first) ⊎ (begun ≡ [])) × (done : ℕ) × (done ≤ turns)
-    × HasEnded begun old new from to done e
+    (begun : List Deed) × ((begun ≡ first) ⊎ ((begun ≡ []) × IsCampaignRefusal e)) × (done : ℕ)
+    × (done ≤ turns) × HasEnded begun old new from to done e
 
 -- A call that is refused only since a save of the node fails now: then these are the prompts.
 pub record FailsAt {S : Type 0} (old new : NodeState S) (from to : Option Traffic)
     (failing : List Deed) (e : GroupFault) : Type 0 where
   pub store : e ≡ group.Node Store
   pub fails : Fails old new from to failing
+
+-- A rest, or a part of one: what the node heard. It is refused only since a save fails at a
+-- message.
+abbrev pub HasRested : {S T : Type 0} → NodeState S → NodeState S → Option Traffic
+    → Option Traffic → Result T GroupFault → Type 0
+HasRested old new from to (Ok x) = HasActed old new from to []
+HasRested old new from to (Err e) = FailsAt old new from to [] e
 
 -- A campaign before the first turn, if the plan has one. It is refused since a save fails, or does
 -- not begin.
@@ -89,9 +96,3 @@ CampaignsIf is_asked old new from to (Ok x) = HasActed old new from to (planned 
 CampaignsIf is_asked old new from to (Err e) =
     (is_asked ≡ true) × (e ≡ group.Node Store → Fails old new from to (planned true))
     × (e ≢ group.Node Store → HasActed old new from to []) × HasReason e new.protocol.known
-
--- True if a node is busy after such a run: its machine has not ended, and does not wait for a key.
-abbrev pub is_busy_after : Ran → Bool
-is_busy_after More = true
-is_busy_after Full = true
-is_busy_after _ = false

@@ -1,6 +1,6 @@
 -- What a whole run of a node does, what passes over its wire, what is typed at it, and what it
 -- writes.
-use Rattle.std.specs.Prelude.{◌≡◌, ◌≤◌, ◌⊎◌, ℕ, true, List, [], ◌++◌, length, Option, Result, Err, IfErr, IsErr, IsErrOf, OnOk}
+use Rattle.std.specs.Prelude.{◌≡◌, ◌≤◌, ◌⊎◌, ℕ, true, List, [], ◌++◌, length, Option, Result, Err, IfErr, IsErrAnd, IsErrOf, OnOk}
 use Rattle.std.specs.Io.KnownBytes.{Appends}
 use Rattle.paxos_acceptor.specs.declared.me.Me.{Me}
 use Rattle.paxos_acceptor.specs.declared.store.StoreFault.{StoreFault}
@@ -17,10 +17,11 @@ use Rattle.group_wire.specs.Process.{RunsAsProcess}
 use Rattle.group_wire.specs.Starts.{HasStarted}
 use Rattle.group_udp.specs.declared.fault.GroupFault.{GroupFault}
 use Rattle.group_udp.specs.declared.fault.GroupFault.TheVariants as group
-use Rattle.node_run.specs.declared.node.NodePlan.{NodePlan}
+use Rattle.node_run.specs.declared.cycles.RunPlan.{RunPlan}
 use Rattle.node_run.specs.Going.{Around, HasReason, planned}
 use Rattle.node_run.specs.Output.{released_from}
-use Rattle.group_udp.specs.Prompts.{IsPrompted, with_gift}
+use Rattle.group_udp.specs.Prompts.{with_gift}
+use Rattle.node_run.specs.Prompted.{IsPrompted}
 use Rattle.group_udp.specs.Refusals.{IsCampaignRefusal, IsWrittenCycleRefusal, write_failed}
 
 -- What was written in the run of a node: the bytes that it has released, from number `seen` on,
@@ -40,7 +41,7 @@ pub record WritesReleased (seen : ℕ) (last : Running) (fails : Type 0) (from t
 
 -- Why a run of this plan may end early: a cycle is refused, or the campaign that the plan asks for.
 -- Forbids: the refusal of a campaign that nobody asked for.
-abbrev pub IsEarlyEnd : NodePlan → GroupFault → Type 0
+abbrev pub IsEarlyEnd : RunPlan → GroupFault → Type 0
 IsEarlyEnd plan e = IsWrittenCycleRefusal e ⊎ ((plan.campaigns ≡ true) × IsCampaignRefusal e)
 
 -- A run of a node that has started, as a process of its group over one load of its store. All that
@@ -50,7 +51,7 @@ IsEarlyEnd plan e = IsWrittenCycleRefusal e ⊎ ((plan.campaigns ≡ true) × Is
 -- Allows: turns at which nothing is heard.
 -- Forbids: output that waits at `Ok`.
 pub record RunsNode {S : Type 0} (loads : S → Result Record StoreFault → S → Type 0) (me : Me)
-    (program : Parts) (store : S) (plan : NodePlan) (from to : Around)
+    (program : Parts) (store : S) (plan : RunPlan) (from to : Around)
     (before after : Option (List ℕ))
     (result : Result (Unit {0}) GroupFault) : Type 0 where
   pub last : Running
@@ -58,7 +59,8 @@ pub record RunsNode {S : Type 0} (loads : S → Result Record StoreFault → S �
   pub prompts : List Deed
   pub runs : RunsAsProcess loads me program store last from.traffic to.traffic (first ++ prompts)
       (IsErrOf result (group.Node Store))
-  pub begun : (first ≡ planned plan.campaigns) ⊎ (IsErr result × (first ≡ []))
+  pub begun : (first ≡ planned plan.campaigns)
+      ⊎ ((first ≡ []) × IsErrAnd result IsCampaignRefusal)
   pub gift : List Deed
   pub given : from.keyboard ≡ with_gift gift to.keyboard
   pub turns : ℕ
@@ -72,7 +74,7 @@ pub record RunsNode {S : Type 0} (loads : S → Result Record StoreFault → S �
 
 -- A run of a node over a store, a wire and a keyboard. Its start is refused; then nothing passes,
 -- nothing is typed, and nothing is written. Or it starts, and runs.
-abbrev pub RunsOrRefuses : {S : Type 0} → StoreKind S → Me → Parts → S → NodePlan → Around
+abbrev pub RunsOrRefuses : {S : Type 0} → StoreKind S → Me → Parts → S → RunPlan → Around
     → Around → Option (List ℕ) → Option (List ℕ) → Result (Unit {0}) GroupFault → Type 0
 RunsOrRefuses {S} kind me program store plan from to before after result =
     ((refused : StartRefused S) × HasStarted kind me program store (Err refused)

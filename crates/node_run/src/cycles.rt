@@ -8,13 +8,13 @@ ghost use Rattle.node_run.specs.Output.{AppendsOutput, NoneWaits, SameProgram};
 ghost use Rattle.node_run.specs.Runs.{IsEarlyEnd};
 ghost use Rattle.group_udp.specs.Refusals.{IsCampaignRefusal, IsCycleRefusal, IsWrittenCycleRefusal, write_failed};
 
-use crate::endpoints::{Endpoints, note_pressed};
-use crate::node::NodePlan;
-use crate::press::press;
+use crate::answering::{Answered, answer_keyboard};
+use crate::endpoints::Endpoints;
 use crate::release::release_all;
 use crate::rest::{is_busy_after, own_turn, rest_unless_busy};
 use group_log::{Log, Note};
-use group_udp::{GroupFault, Keyboard, RestingWire};
+use group_protocol::limits::MOST_WAITING;
+use group_udp::{CountedWire, GroupFault, Keyboard};
 use group_wire::laws::deeds_go_on;
 use group_wire::{Host, Wire};
 use machine_run::ByteWriter;
@@ -22,22 +22,52 @@ use paxos_acceptor::Store;
 use std::io::Write;
 use std::time::Clock;
 
+/// How a node is to run, over whatever store, wire and keyboard.
+#[derive(Clone, Copy, Debug, PartialEq, Eq)]
+pub struct RunPlan {
+    /// How many turns it takes.
+    pub turns: u32,
+    /// Released bytes with a smaller number are not written.
+    pub seen: u64,
+    /// True if it campaigns before its first turn.
+    pub campaigns: bool,
+}
+
 /// Notes that the wire's trace is lost, if it was not said before, and what the wire has counted of
 /// datagrams, if it is time for that.
-fn note_wire<H: Clock, T: RestingWire, E: Write>(wire: &mut T, log: &mut Log<'_, H, E>)
+fn note_wire<H: Clock, T: CountedWire, E: Write>(wire: &mut T, log: &mut Log<'_, H, E>)
     ensures passed { T.traffic wire.new ≡ T.traffic wire.old }
 {
     if wire.take_trace_loss() {
         log.note(&Note::TraceLost);
     }
-    if log.counted(&wire.drops(), &wire.sends()) {
+    if log.note_counts(&wire.drops(), &wire.sends()) {
         wire.clear_counts();
     }
 }
 
+/// Notes what the node did with what its keyboard gave, and that bytes are left because there is no
+/// room for them.
+fn note_answered<H: Clock, K: Keyboard, S: Store, E: Write>(
+    host: &Host<'_, S>,
+    keyboard: &K,
+    answered: Answered,
+    log: &mut Log<'_, H, E>,
+) {
+    if !log.is_on() {
+        return;
+    }
+    if let Answered::CampaignRefused(fault) = answered {
+        log.note(&Note::CampaignRefused(fault));
+    }
+    log.look(host.node().protocol());
+    let waiting = host.node().waiting();
+    log.note_full(waiting, waiting >= MOST_WAITING && keyboard.has_bytes());
+}
+
 /// Rests, unless the node is busy; types bytes at it; and takes its turn. Returns true if the node
 /// is busy then. What was released before stays as it is.
-fn rest_and_turn<H: Clock, T: RestingWire, K: Keyboard, S: Store, E: Write>(
+fn rest_and_turn<H: Clock, T: CountedWire, K: Keyboard, S: Store, E: Write>(
     host: &mut Host<'_, S>,
     endpoints: &mut Endpoints<T, K>,
     is_busy: bool,
@@ -55,18 +85,18 @@ fn rest_and_turn<H: Clock, T: RestingWire, K: Keyboard, S: Store, E: Write>(
     deeds_go_on::<S>();
     rest_unless_busy(host, endpoints, is_busy)?;
     log.look(host.node().protocol());
-    let pressed = press(host, endpoints)?;
-    note_pressed(host, &endpoints.keyboard, pressed, log);
+    let answered = answer_keyboard(host, endpoints)?;
+    note_answered(host, &endpoints.keyboard, answered, log);
     let ran = own_turn(host, &mut endpoints.wire)?;
     log.look(host.node().protocol());
-    log.ran(ran.end());
+    log.note_program_end(ran.end());
     note_wire(&mut endpoints.wire, log);
     Ok(is_busy_after(ran))
 }
 
 /// Makes a cycle: a rest, typing, a turn, and then the release of all output. The bytes from number
 /// `seen` on are written. Returns true if the node is busy.
-fn cycle<H: Clock, T: RestingWire, K: Keyboard, S: Store, W: ByteWriter, E: Write>(
+fn cycle<H: Clock, T: CountedWire, K: Keyboard, S: Store, W: ByteWriter, E: Write>(
     host: &mut Host<'_, S>,
     seen: u64,
     endpoints: &mut Endpoints<T, K>,
@@ -97,9 +127,9 @@ fn cycle<H: Clock, T: RestingWire, K: Keyboard, S: Store, W: ByteWriter, E: Writ
 /// serials, or a failed write. Over all cycles the bytes that were released are written, each once
 /// and in order, but for those that were seen. If a write fails, the last one is lost. At `Ok` no
 /// output waits, if none waited before.
-fn play<H: Clock, T: RestingWire, K: Keyboard, S: Store, W: ByteWriter, E: Write>(
+fn play<H: Clock, T: CountedWire, K: Keyboard, S: Store, W: ByteWriter, E: Write>(
     host: &mut Host<'_, S>,
-    plan: &NodePlan<'_>,
+    plan: RunPlan,
     endpoints: &mut Endpoints<T, K>,
     writer: &mut W,
     log: &mut Log<'_, H, E>,
@@ -107,9 +137,9 @@ fn play<H: Clock, T: RestingWire, K: Keyboard, S: Store, W: ByteWriter, E: Write
     requires works { host.old.protocol.is_stopped ≡ false }
     ensures goes { HasGone [] host.old host.new
         (around_of T.traffic K.remaining endpoints.old)
-        (around_of T.traffic K.remaining endpoints.new) plan.now.turns result }
+        (around_of T.traffic K.remaining endpoints.new) plan.turns result }
     ensures program { SameProgram host.old host.new }
-    ensures writes { AppendsOutput plan.now.seen host.old host.new (IsErrOf result write_failed)
+    ensures writes { AppendsOutput plan.seen host.old host.new (IsErrOf result write_failed)
         (W.contents writer.old) (W.contents writer.new) }
     ensures none_waits { NoneWaits host.old → OnOk result (NoneWaits host.new) }
     ensures others { IfErr result IsWrittenCycleRefusal }
@@ -145,23 +175,23 @@ fn campaign_if<T: Wire, S: Store>(
 
 /// Campaigns, if the plan says so, and then makes the cycles. A campaign that is refused ends it,
 /// and nothing is written.
-pub fn campaign_and_play<H: Clock, T: RestingWire, K: Keyboard, S: Store, W: ByteWriter, E: Write>(
+pub fn campaign_and_play<H: Clock, T: CountedWire, K: Keyboard, S: Store, W: ByteWriter, E: Write>(
     host: &mut Host<'_, S>,
-    plan: &NodePlan<'_>,
+    plan: RunPlan,
     endpoints: &mut Endpoints<T, K>,
     writer: &mut W,
     log: &mut Log<'_, H, E>,
 ) -> Result<(), GroupFault>
     requires works { host.old.protocol.is_stopped ≡ false }
-    ensures goes { HasGone (planned plan.now.campaigns) host.old host.new
+    ensures goes { HasGone (planned plan.campaigns) host.old host.new
         (around_of T.traffic K.remaining endpoints.old)
-        (around_of T.traffic K.remaining endpoints.new) plan.now.turns result }
+        (around_of T.traffic K.remaining endpoints.new) plan.turns result }
     ensures program { SameProgram host.old host.new }
-    ensures writes { AppendsOutput plan.now.seen host.old host.new (IsErrOf result write_failed)
+    ensures writes { AppendsOutput plan.seen host.old host.new (IsErrOf result write_failed)
         (W.contents writer.old) (W.contents writer.new) }
     ensures none_waits { (p : Parts) → host.old.progress ≡ no_progress p
         → OnOk result (NoneWaits host.new) }
-    ensures others { IfErr result (IsEarlyEnd plan.now) }
+    ensures others { IfErr result (IsEarlyEnd plan) }
 {
     deeds_go_on::<S>();
     campaign_if(host, &mut endpoints.wire, plan.campaigns)?;

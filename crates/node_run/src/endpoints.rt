@@ -3,13 +3,9 @@ ghost use Rattle.std.specs.Prelude.{IfErr};
 ghost use Rattle.group_udp.specs.Refusals.{IsOpenRefusal, IsSocketRefusal};
 
 use crate::node::NodePlan;
-use crate::press::Pressed;
 use group_log::{Log, Note};
-use group_protocol::limits::MOST_WAITING;
-use group_udp::{GroupFault, Keyboard, Trace, TypedDatagrams, UdpWire, Watch, address_at, bind};
-use group_wire::Host;
+use group_udp::{GroupFault, Trace, TypedDatagrams, UdpWire, Watch, address_at, bind};
 use mio::net::UdpSocket;
-use paxos_acceptor::Store;
 use std::io::Write;
 use std::net::{Net, SocketAddr};
 use std::rt::Files;
@@ -20,24 +16,6 @@ use std::time::Clock;
 pub struct Endpoints<T, K> {
     pub wire: T,
     pub keyboard: K,
-}
-
-/// Notes the result of typing or of a campaign, and that bytes are left because there is no room.
-pub fn note_pressed<H: Clock, K: Keyboard, S: Store, E: Write>(
-    host: &Host<'_, S>,
-    keyboard: &K,
-    pressed: Pressed,
-    log: &mut Log<'_, H, E>,
-) {
-    if !log.is_on() {
-        return;
-    }
-    if let Pressed::CampaignRefused(fault) = pressed {
-        log.note(&Note::CampaignRefused(fault));
-    }
-    log.look(host.node().protocol());
-    let waiting = host.node().waiting();
-    log.full(waiting, waiting >= MOST_WAITING && keyboard.has_bytes());
 }
 
 /// Binds a socket to the address, and notes a refusal.

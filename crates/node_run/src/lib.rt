@@ -3,24 +3,26 @@
 //! Call first:
 //!
 //! - `node_file`, which runs one node of a group, as a `NodePlan` says;
-//! - `run_node`, the same over any store, wire and keyboard: its contract says that the run is a
-//!   process of a group, what passes over the wire, what is typed and what is written;
+//! - `run_node`, the same over any store, wire and keyboard, as a `RunPlan` says: its contract says
+//!   that the run is a process of a group, what passes over the wire, what is typed and what is
+//!   written;
 //! - `laws::consoles_go_on`, a law: the output of a node continues over its starts.
 //!
 //! A node waits for datagrams between its turns.
 #![tactic(auto)]
 
+mod answering;
 mod cycles;
 mod endpoints;
 pub mod laws;
 mod limits;
 mod node;
-mod press;
 mod release;
 mod rest;
 mod run;
 mod text;
 
+pub use cycles::RunPlan;
 pub use endpoints::Endpoints;
 pub use node::{NodePlan, node_file};
 pub use run::run_node;

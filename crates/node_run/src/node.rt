@@ -3,6 +3,7 @@ ghost use Rattle.std.specs.Prelude.{IfErr, IfOk};
 ghost use Rattle.machine_run.specs.Files.{IsFileRefusal, IsLoadedProgram};
 ghost use Rattle.node_run.specs.Ends.{EndsLoaded, EndsNode, IsTypedText, IsRefusedInput};
 
+use crate::cycles::RunPlan;
 use crate::run::run_opened;
 use group_log::{Log, Note, ProcessEnd};
 use group_node::{Config, NodeFault};
@@ -19,17 +20,16 @@ use std::time::Clock;
 /// What a node on UDP is to do, and where.
 #[derive(Clone, Copy)]
 pub struct NodePlan<'a> {
+    /// Its number, from 1 to the size of the group.
     pub node: u8,
+    /// Its group: 1, 3, 5, 7 or 9 nodes.
     pub group: Group,
     /// The path of the record.
     pub record: &'a str,
-    pub turns: u32,
     /// The address of each node, in order: as many as the group has.
     pub addresses: &'a [SocketAddr],
-    /// Released bytes with a smaller number are not written.
-    pub seen: u64,
-    /// True if the node campaigns before its first turn.
-    pub campaigns: bool,
+    /// How it is to run.
+    pub run: RunPlan,
     /// Where datagrams of typed bytes come, if not from the standard input.
     pub keys: Option<SocketAddr>,
     /// The path of the node's trace, if it writes one: a line for each of its calls.
@@ -135,13 +135,13 @@ fn node_noted<H: Files + Net + Clock + AllocGlobal + Copy + Drop, R: Read, W: By
     node_loaded(rt, &program, plan, reader, writer, log)
 }
 
-/// Runs the plan's node over its record, up to the first refusal (`EndsNode`): it starts, campaigns
-/// if the plan says so, and makes as many cycles as `turns` says. It is a process of its group over
-/// a load of the store at the plan's path.
+/// Runs the plan's node over its record, up to the first refusal (`EndsNode`): it starts, and runs
+/// as `plan.run` says, as by `run_node`. It is a process of its group over a load of the store at
+/// the plan's path.
 ///
 /// What is typed is a front of what the reader had left, or comes as datagrams. `writer` gets each
-/// byte that the node has released, from number `seen` on, once and in order, but for one that a
-/// failed write lost, and nothing else.
+/// byte that the node has released, from number `plan.run.seen` on, once and in order, but for one
+/// that a failed write lost, and nothing else.
 ///
 /// The code file is looked at first, then the node and its group, then the input, which is not read
 /// if typed bytes come as datagrams, then the sockets, and then the record. A refusal before the

@@ -5,18 +5,24 @@ ghost use Rattle.group_wire.specs.declared.answers.Turned.{Turned};
 ghost use Rattle.group_wire.specs.declared.limits.TheConstants.{TURN_STEPS};
 ghost use Rattle.group_wire.specs.Doings.{HasActed};
 ghost use Rattle.group_wire.specs.Turns.{HasTurned, SameReleased};
-ghost use Rattle.node_run.specs.Going.{FailsAt, is_busy_after};
+ghost use Rattle.node_run.specs.Going.{FailsAt, HasRested};
 ghost use Rattle.node_run.specs.Output.{SameProgram};
 
 use crate::endpoints::Endpoints;
 use crate::limits::MOST_RESTING;
-use crate::press::is_calling;
-use group_node::{NodeFault, Ran};
+use group_node::Ran;
 use group_udp::{GroupFault, Keyboard, RestingWire, Waited};
 use group_wire::laws::deeds_go_on;
 use group_wire::{Host, Received, Wire};
 use paxos_acceptor::Store;
 use paxos_msg::limits::MOST_CHARACTERS;
+
+/// Returns true if the keyboard calls a node at which `waiting` keys wait from its rest: by a
+/// request, or by bytes if no key waits. While keys wait their batch is under way, and further
+/// bytes can wait for the next tick.
+fn is_calling<K: Keyboard>(keyboard: &K, waiting: usize) -> bool {
+    keyboard.has_request() || (waiting == 0 && keyboard.has_bytes())
+}
 
 /// Waits at the wire of a node at which `waiting` keys wait. Returns true if its rest is over: it
 /// has taken its time, or the keyboard calls.
@@ -54,10 +60,8 @@ fn rest_once<T: RestingWire, K: Keyboard, S: Store>(
 ) -> Result<bool, GroupFault>
     requires works { host.old.protocol.is_stopped ≡ false }
     ensures works { OnOk result (host.new.protocol.is_stopped ≡ false) }
-    ensures acts { OnOk result (HasActed host.old host.new (T.traffic endpoints.old.wire)
-        (T.traffic endpoints.new.wire) []) }
-    ensures refused { IfErr result (FailsAt host.old host.new (T.traffic endpoints.old.wire)
-        (T.traffic endpoints.new.wire) []) }
+    ensures rests { HasRested host.old host.new (T.traffic endpoints.old.wire)
+        (T.traffic endpoints.new.wire) result }
     ensures untyped { K.remaining endpoints.new.keyboard ≡ K.remaining endpoints.old.keyboard }
     ensures stays { SameReleased host.old host.new }
     ensures progress { host.new.progress ≡ host.old.progress }
@@ -82,10 +86,8 @@ fn rest<T: RestingWire, K: Keyboard, S: Store>(
 ) -> Result<(), GroupFault>
     requires works { host.old.protocol.is_stopped ≡ false }
     ensures works { OnOk result (host.new.protocol.is_stopped ≡ false) }
-    ensures acts { OnOk result (HasActed host.old host.new (T.traffic endpoints.old.wire)
-        (T.traffic endpoints.new.wire) []) }
-    ensures refused { IfErr result (FailsAt host.old host.new (T.traffic endpoints.old.wire)
-        (T.traffic endpoints.new.wire) []) }
+    ensures rests { HasRested host.old host.new (T.traffic endpoints.old.wire)
+        (T.traffic endpoints.new.wire) result }
     ensures untyped { K.remaining endpoints.new.keyboard ≡ K.remaining endpoints.old.keyboard }
     ensures stays { SameReleased host.old host.new }
     ensures progress { host.new.progress ≡ host.old.progress }
@@ -113,10 +115,8 @@ pub fn rest_unless_busy<T: RestingWire, K: Keyboard, S: Store>(
     ensures works { OnOk result (host.new.protocol.is_stopped ≡ false) }
     ensures busy { is_busy ≡ true → (result ≡ Ok tt) × (host.new ≡ host.old)
         × (endpoints.new ≡ endpoints.old) }
-    ensures acts { OnOk result (HasActed host.old host.new (T.traffic endpoints.old.wire)
-        (T.traffic endpoints.new.wire) []) }
-    ensures refused { IfErr result (FailsAt host.old host.new (T.traffic endpoints.old.wire)
-        (T.traffic endpoints.new.wire) []) }
+    ensures rests { HasRested host.old host.new (T.traffic endpoints.old.wire)
+        (T.traffic endpoints.new.wire) result }
     ensures untyped { K.remaining endpoints.new.keyboard ≡ K.remaining endpoints.old.keyboard }
     ensures stays { SameReleased host.old host.new }
     ensures progress { host.new.progress ≡ host.old.progress }
@@ -134,9 +134,7 @@ pub fn rest_unless_busy<T: RestingWire, K: Keyboard, S: Store>(
 
 /// Returns true if a node is busy after such a run: its machine has not ended, and does not wait
 /// for a key.
-pub fn is_busy_after(ran: Ran) -> bool
-    ensures { result ≡ is_busy_after ran }
-{
+pub fn is_busy_after(ran: Ran) -> bool {
     match ran {
         Ran::More | Ran::Full => true,
         Ran::Waits | Ran::Ended(_) => false,

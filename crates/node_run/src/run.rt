@@ -1,17 +1,17 @@
 //! A whole run of one node: over any store, wire and keyboard, and over those of the system.
-ghost use Rattle.std.specs.Prelude.{◌≡◌, ◌⊎◌, IfErr, None, Some};
+ghost use Rattle.std.specs.Prelude.{◌≡◌, IfErr, None, Some};
 ghost use Rattle.node_run.specs.Ends.{RunsOpened, RunsOverFile, RunsWith};
 ghost use Rattle.node_run.specs.Going.{around_of};
-ghost use Rattle.group_udp.specs.Refusals.{IsOpenRefusal, IsRunRefusal};
+ghost use Rattle.group_udp.specs.Refusals.{IsRunRefusal};
 ghost use Rattle.node_run.specs.Runs.{RunsOrRefuses};
 
-use crate::cycles::campaign_and_play;
+use crate::cycles::{RunPlan, campaign_and_play};
 use crate::endpoints::{Endpoints, open_keyboard, open_wire};
 use crate::node::NodePlan;
 use crate::text::Text;
 use group_log::Log;
 use group_node::{Config, NodeFault};
-use group_udp::{GroupFault, Keyboard, RestingWire, UdpWire, Watch};
+use group_udp::{CountedWire, GroupFault, Keyboard, UdpWire, Watch};
 use group_wire::{Host, Told, Wire};
 use machine_run::ByteWriter;
 use paxos_acceptor::Store;
@@ -48,28 +48,29 @@ fn tell_end<T: Wire>(wire: &mut T, done: Result<(), GroupFault>) -> Result<(), G
 /// A start that is refused ends it, and nothing passes, nothing is typed, and nothing is written.
 /// Else it ends at the first failed save or write, if the plan's campaign is refused, or where a
 /// byte is typed and the serials are spent.
-pub fn run_node<H: Clock, T: RestingWire, K: Keyboard, S: Store + Drop, W: ByteWriter, E: Write>(
+pub fn run_node<H: Clock, T: CountedWire, K: Keyboard, S: Store + Drop, W: ByteWriter, E: Write>(
     alloc: Global,
     program: &Program,
     config: Config,
     store: S,
-    plan: &NodePlan<'_>,
+    plan: RunPlan,
     endpoints: &mut Endpoints<T, K>,
     writer: &mut W,
     log: &mut Log<'_, H, E>,
 ) -> Result<(), GroupFault>
-    ensures ends { RunsOrRefuses S.kind config program.now store plan.now
+    ensures ends { RunsOrRefuses S.kind config program.now store plan
         (around_of T.traffic K.remaining endpoints.old)
         (around_of T.traffic K.remaining endpoints.new)
         (W.contents writer.old) (W.contents writer.new) result }
     ensures others { IfErr result IsRunRefusal }
 {
+    let group = config.me().group;
     let mut host = match Host::start(alloc, program, config, store) {
         Ok(host) => host,
         Err(refused) => return tell_end(&mut endpoints.wire, Err(GroupFault::from(refused))),
     };
     endpoints.wire.tell(&Told::Started);
-    log.started(host.node().protocol(), plan.group);
+    log.note_started(host.node().protocol(), group);
     let played = campaign_and_play(&mut host, plan, endpoints, writer, log);
     // The machine is where a replay from the start is.
     host.unreleased();
@@ -94,7 +95,6 @@ fn run_over_file<
     ensures ends { RunsOverFile config program.now plan.now
         (K.remaining endpoints.old.keyboard) (K.remaining endpoints.new.keyboard)
         (W.contents writer.old) (W.contents writer.new) result }
-    ensures others { IfErr result (λ e. IsOpenRefusal e ⊎ IsRunRefusal e) }
 {
     let store = FileStore::new(*rt, plan.record, config.me())?;
     run_node(
@@ -102,7 +102,7 @@ fn run_over_file<
         program,
         config,
         store,
-        plan,
+        plan.run,
         endpoints,
         writer,
         log,
@@ -122,11 +122,10 @@ fn run_over_text<H: Files + Net + Clock + AllocGlobal + Copy + Drop, W: ByteWrit
     ensures ends { RunsWith config program.now plan.now
         (Some (record { bytes = text.now; requests = 0 }))
         (W.contents writer.old) (W.contents writer.new) result }
-    ensures others { IfErr result (λ e. IsOpenRefusal e ⊎ IsRunRefusal e) }
 {
     let watch = Watch::new(rt)?;
     let wire = open_wire(rt, plan, watch, log)?;
-    let keyboard = Text { rest: text };
+    let keyboard = Text { left: text };
     let mut endpoints = Endpoints { wire, keyboard };
     run_over_file(rt, program, config, plan, &mut endpoints, writer, log)
 }
@@ -144,7 +143,6 @@ fn run_over_datagrams<H: Files + Net + Clock + AllocGlobal + Copy + Drop, W: Byt
 ) -> Result<(), GroupFault>
     ensures ends { RunsWith config program.now plan.now None (W.contents writer.old)
         (W.contents writer.new) result }
-    ensures others { IfErr result (λ e. IsOpenRefusal e ⊎ IsRunRefusal e) }
 {
     let watch = Watch::new(rt)?;
     let keyboard = open_keyboard(rt, address, &watch, log)?;
@@ -166,7 +164,6 @@ pub fn run_opened<H: Files + Net + Clock + AllocGlobal + Copy + Drop, W: ByteWri
 ) -> Result<(), GroupFault>
     ensures ends { RunsOpened config program.now plan.now text.now
         (W.contents writer.old) (W.contents writer.new) result }
-    ensures others { IfErr result (λ e. IsOpenRefusal e ⊎ IsRunRefusal e) }
 {
     match plan.keys {
         None => run_over_text(rt, program, config, plan, text, writer, log),

@@ -6,13 +6,13 @@ use group_udp::Keyboard;
 #[derive(Drop)]
 pub struct Text<'a> {
     /// The bytes that are still to be typed.
-    pub rest: &'a [u8],
+    pub left: &'a [u8],
 }
 
 impl Keyboard for Text<'_> {
     ghost use Rattle.std.specs.Prelude.{Some};
 
-    ghost remaining = { λ t. Some (record { bytes = t.rest.now; requests = 0 }) };
+    ghost remaining = { λ t. Some (record { bytes = t.left.now; requests = 0 }) };
 
     // All of it is there.
     fn look(&mut self) {}
@@ -23,7 +23,7 @@ impl Keyboard for Text<'_> {
     }
 
     fn has_bytes(&self) -> bool {
-        !self.rest.is_empty()
+        !self.left.is_empty()
     }
 
     fn take_request(&mut self) -> bool {
@@ -31,10 +31,10 @@ impl Keyboard for Text<'_> {
     }
 
     fn give(&mut self, buffer: &mut [u8; MOST_WAITING], waiting: usize) -> usize {
-        let count = self.rest.len().min(MOST_WAITING.saturating_sub(waiting));
-        let (now, later) = self.rest.split_at(count);
+        let count = self.left.len().min(MOST_WAITING.saturating_sub(waiting));
+        let (now, later) = self.left.split_at(count);
         buffer[..count].copy_from_slice(now);
-        self.rest = later;
+        self.left = later;
         count
     }
 }

@@ -15,7 +15,7 @@ ghost use Rattle.group_protocol.specs.Known.{on_typed, new_key, Known, on_start}
 ghost use Rattle.group_protocol.specs.ProposerRows.{on_campaign};
 ghost use Rattle.group_protocol.specs.Tick.{on_tick};
 ghost use Rattle.group_protocol.specs.Ranges.{IsHeardFit};
-ghost use Rattle.group_node.specs.World.{after_call, IsSeated, with_seat, WorldState, WorldStep};
+ghost use Rattle.group_node.specs.World.{after_call, SitsSoundly, with_seat, WorldState, WorldStep};
 
 use group_protocol::laws::{calls_are_lawful, waiting_keys_are_a_row};
 use paxos_learner::laws::learned_stays;
@@ -25,18 +25,18 @@ use paxos_learner::laws::learned_stays;
 /// one whose save failed, with either record left, nothing sent and the node down.
 pub fn calls_are_deeds()
     ensures press { (w : WorldState) (n : Known) (byte k : ℕ) (c : Configuration) (console : List ℕ)
-        → IsSeated w n c k console → WorldStep w n.me.node (deed.Press byte)
+        → SitsSoundly w n c k console → WorldStep w n.me.node (deed.Press byte)
         (after_call w n.me.node (on_typed n byte) (keys_of (new_key n byte)) c k console) }
     ensures hear { (w : WorldState) (n : Known) (j k : ℕ) (body : Body) (c : Configuration)
-        (console : List ℕ) → IsSeated w n c k console → IsHeardFit n.me j body
+        (console : List ℕ) → SitsSoundly w n c k console → IsHeardFit n.me j body
         → IsSent w.sent j body
         → WorldStep w n.me.node (deed.Hear (record { sender = j; body = body }))
         (after_call w n.me.node (on_message n j body) [] c k console) }
     ensures campaign { (w : WorldState) (n : Known) (k : ℕ) (c : Configuration) (console : List ℕ)
-        → IsSeated w n c k console → WorldStep w n.me.node deed.Campaign
+        → SitsSoundly w n c k console → WorldStep w n.me.node deed.Campaign
         (after_call w n.me.node (on_campaign n) [] c k console) }
     ensures tick { (w : WorldState) (n : Known) (k : ℕ) (c : Configuration) (console : List ℕ)
-        → IsSeated w n c k console → WorldStep w n.me.node deed.Tick
+        → SitsSoundly w n c k console → WorldStep w n.me.node deed.Tick
         (after_call w n.me.node (on_tick n) [] c k console) }
     ensures start { (w : WorldState) (me : Me) (r : Record) (console : List ℕ)
         → w.size ≡ me.group.size
@@ -44,13 +44,14 @@ pub fn calls_are_deeds()
         → WorldStep w me.node (deed.Start r)
         (after_call w me.node (on_start me r) [] (begin w.program) 0 console) }
     ensures falls_hearing { (w : WorldState) (n : Known) (j k : ℕ) (body : Body) (left : Record)
-        (c : Configuration) (console : List ℕ) → IsSeated w n c k console → IsHeardFit n.me j body
+        (c : Configuration) (console : List ℕ) → SitsSoundly w n c k console
+        → IsHeardFit n.me j body
         → IsSent w.sent j body → (on_message n j body).saves ≢ None
         → IsOneOf left n.kept (on_message n j body).node.kept
         → WorldStep w n.me.node (deed.Hear (record { sender = j; body = body }))
         (with_seat w n.me.node (record { kept = left; console = console; up = None })) }
     ensures falls_campaign { (w : WorldState) (n : Known) (k : ℕ) (left : Record)
-        (c : Configuration) (console : List ℕ) → IsSeated w n c k console
+        (c : Configuration) (console : List ℕ) → SitsSoundly w n c k console
         → IsOneOf left n.kept (on_campaign n).node.kept → WorldStep w n.me.node deed.Campaign
         (with_seat w n.me.node (record { kept = left; console = console; up = None })) }
     ensures falls_start { (w : WorldState) (me : Me) (r left : Record) (console : List ℕ)

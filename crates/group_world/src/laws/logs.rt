@@ -71,7 +71,7 @@ pub fn wrong_logs()
 /// By a clock, what is heard was sent earlier, and an entry does not stand after one that began
 /// later. Node 2 sends its Prepare in a deed that begins at time 5; node 4 may hear it at any later
 /// time, and not at that time or before.
-pub fn wrong_times()
+pub fn wrong_clocks()
     ensures later { (time : ℕ) → 5 < time
         → AllHearEarlier five_nodes (heard_at time) (heard_at time) }
     ensures not_later { (time : ℕ) → time ≤ 5

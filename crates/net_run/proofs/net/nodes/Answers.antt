@@ -17,4 +17,4 @@ returns-in_err-config g c =
 pub returns-in_err-start : goal.returns-in_err-start
 returns-in_err-start g c =
     let p = err_from_is_err_and c.from_residual-in_err-start.result c.from_residual-in_err-start.ensures.1 in
-    record { others = rw (p.1, p.2) (inr (inr (inr (inr c.in_err-start.ensures.others)))) }
+    record { others = rw (p.1, p.2) (inr (inr (inr (inr (inr (inr c.in_err-start.ensures.others)))))) }

@@ -1,4 +1,4 @@
-use Rattle.std.proofs.Common.{◌≡◌, ◌≤◌, [], Option, length}
+use Rattle.std.proofs.Common.{[], Option}
 use Rattle.group_wire.specs.Doings.{HasActed}
 use Rattle.group_wire.specs.Traffic.{Traffic}
 use Rattle.net_run.specs.Shown.{ReleasesFirst, ShowsReleased}

@@ -6,16 +6,16 @@ use Rattle.node_run.proofs.cycles.campaign_and_play.Goals as goal
 
 pub returns-in_err-campaign_if-clause-writes : goal.returns-in_err-campaign_if-clause-writes
 returns-in_err-campaign_if-clause-writes g c =
-    wrote_none c.args.plan.now.seen c.args.host.now c.campaign_if.new.host _ _
+    wrote_none c.args.plan.seen c.args.host.now c.campaign_if.new.host _ _
     (let p = err_from_is_err_and c.from_residual.result c.from_residual.ensures.1 in grind arith) c.in_err-campaign_if.ensures.stays
 
 pub returns-in_err-campaign_if-clause-goes : goal.returns-in_err-campaign_if-clause-goes
 returns-in_err-campaign_if-clause-goes g c =
     let p = err_from_is_err_and c.from_residual.result c.from_residual.ensures.1 in
-    rw (p.1, p.2) (campaign_refused c.in_err-campaign_if.ensures.acts)
+    rw (p.1, p.2) (campaign_refused c.in_err-campaign_if.ensures.acts c.in_err-campaign_if.ensures.others)
 
 pub returns-clause-goes : goal.returns-clause-goes
-returns-clause-goes g c = begun_by c.deeds_go_on.ensures _ _ _ c.args.plan.now.turns c.play.result
+returns-clause-goes g c = begun_by c.deeds_go_on.ensures _ _ _ c.args.plan.turns c.play.result
     c.in_ok-campaign_if.ensures.acts c.play.ensures.goes
 
 pub returns-clause-none_waits : goal.returns-clause-none_waits

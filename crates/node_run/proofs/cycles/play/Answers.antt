@@ -6,7 +6,7 @@ use Rattle.node_run.proofs.cycles.play.Goals as goal
 
 pub returns-in_err-is_busy-clause-writes : goal.returns-in_err-is_busy-clause-writes
 returns-in_err-is_busy-clause-writes g c =
-    wrote_then c.args.plan.now.seen c.args.host.now c.loop.host c.cycle.new.host _ _ _ _ _ _ (λ f. absurd cc)
+    wrote_then c.args.plan.seen c.args.host.now c.loop.host c.cycle.new.host _ _ _ _ _ _ (λ f. absurd cc)
     (let p = err_from_is_err_and c.from_residual.result c.from_residual.ensures.1 in grind arith) c.loop.invariant.wrote
     c.in_err-is_busy.ensures.writes
 
@@ -15,7 +15,7 @@ loop-init g c = record {
   goes = gone_unprompted (c.deeds_go_on.ensures.none _ _) refl;
   works = c.requires.works;
   program = refl;
-  wrote = wrote_none c.args.plan.now.seen c.args.host.now c.args.host.now _ _ (λ f. absurd cc) refl;
+  wrote = wrote_none c.args.plan.seen c.args.host.now c.args.host.now _ _ (λ f. absurd cc) refl;
   none_waits = λ none. none;
 }
 
@@ -24,7 +24,7 @@ loop-preserved g c = record {
   goes = gone_then c.deeds_go_on.ensures c.loop.invariant.goes c.in_ok-is_busy.ensures.goes;
   works = c.in_ok-is_busy.ensures.works;
   program = cc;
-  wrote = wrote_then c.args.plan.now.seen c.args.host.now c.loop.host c.cycle.new.host _ _ _ _ _ _ (λ f. absurd cc)
+  wrote = wrote_then c.args.plan.seen c.args.host.now c.loop.host c.cycle.new.host _ _ _ _ _ _ (λ f. absurd cc)
       (grind arith) c.loop.invariant.wrote c.in_ok-is_busy.ensures.writes;
   none_waits = λ none. c.in_ok-is_busy.ensures.none_waits;
 }

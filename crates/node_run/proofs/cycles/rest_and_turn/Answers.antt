@@ -1,7 +1,7 @@
 use Rattle.std.proofs.Common.{[], ◌∙◌, inl, refl, sym, arith}
 use Rattle.std.proofs.lemmas.Result.{err_from_is_err_and}
 use Rattle.node_run.proofs.Going.{ended_then, gift_none, gone_then, gone_turn, gone_unprompted, prompted_none, save_ended}
-use Rattle.node_run.proofs.Pressing.{pressed_on}
+use Rattle.node_run.proofs.KeyboardAnswers.{answered_on}
 use Rattle.node_run.proofs.cycles.rest_and_turn.Goals as goal
 
 pub returns-in_err-rest_unless_busy-clause-goes : goal.returns-in_err-rest_unless_busy-clause-goes
@@ -9,26 +9,26 @@ returns-in_err-rest_unless_busy-clause-goes g c =
     let p = err_from_is_err_and c.from_residual.result c.from_residual.ensures.1 in
     let same = c.in_err-rest_unless_busy.ensures.untyped in
     rw (p.1, p.2)
-    ([], inl refl, 0, omega arith, save_ended c.in_err-rest_unless_busy.ensures.refused (sym same ∙ gift_none _) prompted_none)
+    ([], inl refl, 0, omega arith, save_ended c.in_err-rest_unless_busy.ensures.rests (sym same ∙ gift_none _) prompted_none)
 
-pub returns-in_err-pressed-clause-goes : goal.returns-in_err-pressed-clause-goes
-returns-in_err-pressed-clause-goes g c =
-    let p = err_from_is_err_and c.from_residual-in_err-pressed.result c.from_residual-in_err-pressed.ensures.1 in
-    let rested = gone_unprompted c.in_ok-rest_unless_busy.ensures.acts c.in_ok-rest_unless_busy.ensures.untyped in
-    rw (p.1, p.2) ([], inl refl, 0, omega arith, ended_then c.deeds_go_on.ensures rested c.in_err-pressed.ensures.pressed.1)
+pub returns-in_err-answered-clause-goes : goal.returns-in_err-answered-clause-goes
+returns-in_err-answered-clause-goes g c =
+    let p = err_from_is_err_and c.from_residual-in_err-answered.result c.from_residual-in_err-answered.ensures.1 in
+    let rested = gone_unprompted c.in_ok-rest_unless_busy.ensures.rests c.in_ok-rest_unless_busy.ensures.untyped in
+    rw (p.1, p.2) ([], inl refl, 0, omega arith, ended_then c.deeds_go_on.ensures rested c.in_err-answered.ensures.answered.1)
 
 pub returns-in_err-ran-clause-goes : goal.returns-in_err-ran-clause-goes
 returns-in_err-ran-clause-goes g c =
     let p = err_from_is_err_and c.from_residual-in_err-ran.result c.from_residual-in_err-ran.ensures.1 in
-    let rested = gone_unprompted c.in_ok-rest_unless_busy.ensures.acts c.in_ok-rest_unless_busy.ensures.untyped in
-    let pressed = pressed_on g.S.Store.kind _ c.in_ok-pressed.ensures.pressed in
-    let ended = ended_then c.deeds_go_on.ensures (gone_then c.deeds_go_on.ensures rested pressed)
+    let rested = gone_unprompted c.in_ok-rest_unless_busy.ensures.rests c.in_ok-rest_unless_busy.ensures.untyped in
+    let answered = answered_on g.S.Store.kind _ c.in_ok-answered.ensures.answered in
+    let ended = ended_then c.deeds_go_on.ensures (gone_then c.deeds_go_on.ensures rested answered)
     (save_ended c.in_err-ran.ensures.refused (gift_none _) prompted_none) in
     rw (p.1, p.2) ([], inl refl, 0, omega arith, ended)
 
 pub returns-clause-goes : goal.returns-clause-goes
 returns-clause-goes g c =
-    let rested = gone_unprompted c.in_ok-rest_unless_busy.ensures.acts c.in_ok-rest_unless_busy.ensures.untyped in
-    let pressed = pressed_on g.S.Store.kind _ c.in_ok-pressed.ensures.pressed in
+    let rested = gone_unprompted c.in_ok-rest_unless_busy.ensures.rests c.in_ok-rest_unless_busy.ensures.untyped in
+    let answered = answered_on g.S.Store.kind _ c.in_ok-answered.ensures.answered in
     rw c.note_wire.ensures.passed
-    (gone_then c.deeds_go_on.ensures rested (gone_then c.deeds_go_on.ensures pressed (gone_turn 1000 c.in_ok-ran.ensures.acts)))
+    (gone_then c.deeds_go_on.ensures rested (gone_then c.deeds_go_on.ensures answered (gone_turn 1000 c.in_ok-ran.ensures.acts)))

@@ -10,7 +10,7 @@ returns-in-Err-clause-ends g c =
 pub returns-clause-ends : goal.returns-clause-ends
 returns-clause-ends g c =
     rw (c.tell_end-2.ensures.same, c.tell_end-2.ensures.passed, ← c.tell.ensures.passed)
-    (inr (runs_by g.S.Store.kind _ _ _ c.args.plan.now c.in-Ok.host c.campaign_and_play-played.new.host _ _ _ _
+    (inr (runs_by g.S.Store.kind _ _ _ c.args.plan c.in-Ok.host c.campaign_and_play-played.new.host _ _ _ _
     c.in-Ok.ensures.starts c.unreleased.ensures.replay c.campaign_and_play-played.result c.campaign_and_play-played.ensures.goes
     c.campaign_and_play-played.ensures.writes
     (c.campaign_and_play-played.ensures.none_waits _ c.in-Ok.ensures.starts.fresh.progress)

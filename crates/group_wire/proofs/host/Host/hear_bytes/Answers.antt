@@ -1,5 +1,4 @@
 use Rattle.std.proofs.Common.{rules, ◌∙◌, refl, ap, arith, Err}
-use Rattle.std.proofs.lemmas.Bool.Decides.{nat_tests}
 use Rattle.group_wire.specs.declared.answers.Received.TheVariants.{Dropped, Lost}
 use Rattle.group_wire.specs.Arrivals.{Loses, NoMessage, TooLong}
 use Rattle.group_wire.proofs.Hearing.{hears_none, hears_one, refuses_one}

@@ -6,17 +6,19 @@ pub returns : goal.returns
 returns g c =
     let hears = c.in_ok-lost.ensures.hears in
     record {
-      came = hears.0;
-      ending = hears.1;
-      plays = turn_is {ticks = c.in_ok-ticked.ticked} {mid = c.hear_all.new.self} _ hears.2
-          (rw c.run.ensures.protocol c.in_ok-ticked.ensures.known) (c.tell.ensures.passed ∙ c.in_ok-ticked.ensures.traffic);
-      hears = record { few = hears.3.few; ended = hears.3.ended; fault = search rules };
-      lost = hears.4;
-      me = search rules;
-      runs = search rules;
-      rest = search rules;
-      others = search rules;
-      stopped = search rules;
-      stops = search rules;
-      cause = search rules;
+      turned = record {
+        came = hears.0;
+        ending = hears.1;
+        plays = turn_is {ticks = c.in_ok-ticked.ticked} {mid = c.hear_all.new.self} _ hears.2
+            (rw c.run.ensures.protocol c.in_ok-ticked.ensures.known) (c.tell.ensures.passed ∙ c.in_ok-ticked.ensures.traffic);
+        hears = record { few = hears.3.few; ended = hears.3.ended; fault = search rules };
+        lost = hears.4;
+        me = search rules;
+        runs = search rules;
+        rest = search rules;
+        others = search rules;
+        stopped = search rules;
+        stops = search rules;
+        cause = search rules;
+      };
     }

@@ -7,4 +7,4 @@ pub returns-clause-stays : goal.returns-clause-stays
 returns-clause-stays g c = grind (arith, call_stays)
 
 pub returns-clause-acts : goal.returns-clause-acts
-returns-clause-acts g c = turn_acts_by _ c.take_turn-turned.ensures c.unreleased-2.ensures.replay
+returns-clause-acts g c = turn_acts_by _ c.take_turn-turned.ensures.turned c.unreleased-2.ensures.replay

@@ -238,8 +238,8 @@ module _ (laws : Laws) {w v : World} (plan : Option Bool) (d : Done) (sound : Is
       → (v ≡ world_after_call w i made m.console progress keys → IsOrdered v) → (o : Option Bool)
       → LeavesBy w i m progress (save_outcome m.kept made keys o) d v → IsOrdered v
   saves_by made progress keys more went None (answer, e) = went e
-  saves_by made progress keys more went (Some is_kept) (answer, e) =
-      rw e (fallen_world laws sound h i there (if is_kept then made.node.kept else m.kept) (grind (arith, nat_tests)))
+  saves_by made progress keys more went (Some is_changed) (answer, e) =
+      rw e (fallen_world laws sound h i there (if is_changed then made.node.kept else m.kept) (grind (arith, nat_tests)))
 
   module _ {q : Running} (up : m.node ≡ Some q) where
     is_up : IsUp w i m q

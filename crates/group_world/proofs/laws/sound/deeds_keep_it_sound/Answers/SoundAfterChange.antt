@@ -183,8 +183,8 @@ module _ (laws : Laws) {w : World} (h : IsSound w) (i : ℕ) {m : Member} (there
 
   -- a save that fails keeps the world sound
   pub fall_sound : (made : Response) {progress : Progress} {keys : List Value} → MayMake w i m made progress keys
-      → (is_kept : Bool) (c : Change) → made.saves ≡ Some c
-      → IsSound (world_after_fall w i m (if is_kept then made.node.kept else m.kept))
+      → (is_changed : Bool) (c : Change) → made.saves ≡ Some c
+      → IsSound (world_after_fall w i m (if is_changed then made.node.kept else m.kept))
   fall_sound made may false c e = crash_sound
   fall_sound made may true c e =
       let saved = rw e at may.lawful.saves in

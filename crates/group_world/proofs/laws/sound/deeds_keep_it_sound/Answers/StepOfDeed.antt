@@ -32,7 +32,7 @@ use Rattle.group_node.specs.States.{input}
 use Rattle.group_node.specs.Deeds as deed
 use Rattle.group_node.specs.Deeds.{Deed}
 use Rattle.group_node.specs.World as group
-use Rattle.group_node.specs.World.{IsSeated, Sits, WorldStep, after_call, with_seat, ChangesOnly, WorldState}
+use Rattle.group_node.specs.World.{SitsSoundly, Sits, WorldStep, after_call, with_seat, ChangesOnly, WorldState}
 use Rattle.group_world.specs.declared.event.Done.{Done}
 use Rattle.group_world.specs.declared.event.Done.TheVariants.{Applied}
 use Rattle.group_world.specs.Deeds.{DoesDeed, EndsCall, Left, quietly}
@@ -54,17 +54,17 @@ StepsCall w e i m progress (Refuses f) = Unit {0}
 StepsCall w e i m progress (Makes made keys) =
     MayMake w i m made progress keys
     × WorldStep (world_state w) i e (world_state (world_after_call w i made m.console progress keys))
-    × ((is_kept : Bool) → made.saves ≢ None
-    → WorldStep (world_state w) i e (world_state (world_after_fall w i m (if is_kept then made.node.kept else m.kept))))
+    × ((is_changed : Bool) → made.saves ≢ None
+    → WorldStep (world_state w) i e (world_state (world_after_fall w i m (if is_changed then made.node.kept else m.kept))))
 
 -- a save that fails is a save of the call
-fails_some : (saves : Option Change) (plan : Option Bool) (is_kept : Bool) → failing saves plan ≡ Some is_kept
+fails_some : (saves : Option Change) (plan : Option Bool) (is_changed : Bool) → failing saves plan ≡ Some is_changed
     → (c : Change) × (saves ≡ Some c)
-fails_some saves plan is_kept e = grind (arith, nat_tests)
+fails_some saves plan is_changed e = grind (arith, nat_tests)
 
 -- a save that fails leaves the changed record or the old one
-one_of : (is_kept : Bool) {old new kept : Record} → old ≡ kept → IsOneOf (if is_kept then new else kept) old new
-one_of is_kept e = grind (arith, nat_tests)
+one_of : (is_changed : Bool) {old new kept : Record} → old ≡ kept → IsOneOf (if is_changed then new else kept) old new
+one_of is_changed e = grind (arith, nat_tests)
 
 module _ (laws : Laws) {w : World} (h : IsSound w) {i : ℕ} {m : Member} {q : Running} (up : IsUp w i m q) where
   abbrev s : WorldState
@@ -113,7 +113,7 @@ module _ (laws : Laws) {w : World} (h : IsSound w) {i : ℕ} {m : Member} {q : R
   sits =
       grind (arith, sound.me_is, sound.kept_is)
 
-  seated : IsSeated s q.known configuration q.progress.released m.console
+  seated : SitsSoundly s q.known configuration q.progress.released m.console
   seated = record { sits = sits; ranges = sound.ranges; backs = sound.backs }
 
   -- the same step, at the node's own number
@@ -135,10 +135,10 @@ module _ (laws : Laws) {w : World} (h : IsSound w) {i : ℕ} {m : Member} {q : R
       called_state laws.spelling_is_read.ensures.read w i m made q.progress keys up.there h.session (is_node i h up.there) may.fits in (
         may,
         rw (state, same) (rw sound.me_is at step),
-        λ is_kept saves.
-            let left = if is_kept then made.node.kept else m.kept in
+        λ is_changed saves.
+            let left = if is_changed then made.node.kept else m.kept in
             rw (member_state w i m (record { kept = left; console = m.console; node = None }) up.there)
-            (rw sound.me_is at (falls saves left (one_of is_kept sound.kept_is))),
+            (rw sound.me_is at (falls saves left (one_of is_changed sound.kept_is))),
       )
 
   -- each of these calls
@@ -266,10 +266,10 @@ module _ (laws : Laws) {w : World} (h : IsSound w) (i : ℕ) {m : Member} (down 
       (first_configuration w.program (input made.node)) in (
         may,
         rw state (laws.calls_are_deeds.ensures.start _ (me_of w i) m.kept m.console refl seated),
-        λ is_kept saves.
-            let left = if is_kept then made.node.kept else m.kept in
+        λ is_changed saves.
+            let left = if is_changed then made.node.kept else m.kept in
             rw (member_state w i m (record { kept = left; console = m.console; node = None }) down.there)
-            (laws.calls_are_deeds.ensures.falls_start _ (me_of w i) m.kept left m.console seated (one_of is_kept refl)),
+            (laws.calls_are_deeds.ensures.falls_start _ (me_of w i) m.kept left m.console seated (one_of is_changed refl)),
       ))
 
 -- ---- the deed
@@ -285,9 +285,9 @@ module _ (laws : Laws) {w : World} (h : IsSound w) (e : Deed) (i : ℕ) {m : Mem
       → LeavesBy w i m progress (save_outcome m.kept made keys o) d v → GoesOn w i e d v
   saves_go_on made keys None none (may, step, falls) (answer, leaves) =
       rw (answer, leaves) (call_sound laws h i there progress keys made may, step)
-  saves_go_on made keys (Some is_kept) one (may, step, falls) (answer, leaves) =
-      let (c, some) = fails_some made.saves plan is_kept one in
-      rw (answer, leaves) (fall_sound laws h i there made may is_kept c some, falls is_kept (λ none. absurd cc))
+  saves_go_on made keys (Some is_changed) one (may, step, falls) (answer, leaves) =
+      let (c, some) = fails_some made.saves plan is_changed one in
+      rw (answer, leaves) (fall_sound laws h i there made may is_changed c some, falls is_changed (λ none. absurd cc))
 
 module _ (laws : Laws) {w v : World} (h : IsSound w) (i : ℕ) (m : Member) (there : member_at w.members i ≡ Some m) (plan : Option Bool)
     (left : Left) {d : Done} (answers : d ≡ left.answer) (leads : v ≡ world_after w i left) where

@@ -1,8 +1,8 @@
 use Rattle.std.proofs.Common.{◌+◌, ◌≤◌, length, take, refl, arith}
 use Rattle.std.proofs.lemmas.Grind.{common_steps}
 use Rattle.std.proofs.lemmas.Result.{err_from_is_err_and}
-use Rattle.node_run.proofs.Pressing.{typed_all, typed_some}
-use Rattle.node_run.proofs.press.type_given.Goals as goal
+use Rattle.node_run.proofs.KeyboardAnswers.{typed_all, typed_some}
+use Rattle.node_run.proofs.answering.type_given.Goals as goal
 
 pub returns-in_err-pressed-clause-typed : goal.returns-in_err-pressed-clause-typed
 returns-in_err-pressed-clause-typed g c =

@@ -11,10 +11,10 @@ use Rattle.group_wire.specs.Presses.{HasPressed}
 use Rattle.group_wire.specs.Traffic.{Traffic}
 use Rattle.group_udp.specs.declared.fault.GroupFault.{GroupFault}
 use Rattle.group_udp.specs.declared.fault.GroupFault.TheVariants as group
-use Rattle.node_run.specs.declared.press.Pressed.{Pressed}
-use Rattle.node_run.specs.declared.press.Pressed.TheVariants.{Bytes, Campaigned, CampaignRefused, Ignored}
+use Rattle.node_run.specs.declared.answering.Answered.{Answered}
+use Rattle.node_run.specs.declared.answering.Answered.TheVariants.{Bytes, Campaigned, CampaignRefused, Ignored}
 use Rattle.node_run.specs.Going.{Around, HasEnded, HasGoneOn, around}
-use Rattle.node_run.specs.Pressing.{HasCampaignedAsAsked, HasPressedKeyboard, HasTypedGiven}
+use Rattle.node_run.specs.Answering.{HasCampaignedAsAsked, HasAnsweredKeyboard, HasTypedGiven}
 use Rattle.group_udp.specs.Prompts.{Remaining, with_gift}
 use Rattle.node_run.proofs.Going.{gift_both, prompted, prompted_lost, prompted_typed, save_ended}
 
@@ -40,15 +40,15 @@ typed_some {after = after} to e h (typed, whole, acts) same works given =
 
 -- ---- what the node did with it
 
-pub pressed_on : {S : Type 0} (kind : StoreKind S) {old new : NodeState S} {from to : Around} (pressed : Pressed)
-    → HasPressedKeyboard kind old new from to (Ok pressed) → HasGoneOn [] old new from to 0
-pressed_on kind Bytes (typed, given, acts) =
+pub answered_on : {S : Type 0} (kind : StoreKind S) {old new : NodeState S} {from to : Around} (answered : Answered)
+    → HasAnsweredKeyboard kind old new from to (Ok answered) → HasGoneOn [] old new from to 0
+answered_on kind Bytes (typed, given, acts) =
     record { gift = map Press typed; prompts = map Press typed; given = given; acts = acts; prompted = prompted_typed typed }
-pressed_on kind Campaigned (given, asked) =
+answered_on kind Campaigned (given, asked) =
     record { gift = Campaign ∷ []; prompts = Campaign ∷ []; given = given; acts = asked.1; prompted = prompted refl (omega arith) refl }
-pressed_on kind Ignored (given, asked) =
+answered_on kind Ignored (given, asked) =
     record { gift = Campaign ∷ []; prompts = []; given = given; acts = asked.1; prompted = prompted refl (omega arith) refl }
-pressed_on kind (CampaignRefused f) (given, refused) =
+answered_on kind (CampaignRefused f) (given, refused) =
     record { gift = Campaign ∷ []; prompts = []; given = given; acts = refused.4; prompted = prompted refl (omega arith) refl }
 
 -- typing that spent the serials
@@ -59,25 +59,25 @@ typing_ended passed (typed, lost, spent, given, due, acts) =
     grind (arith, map Press (typed ++ lost), map Press typed, acts passed, same)
 
 -- a campaign that was asked for, by its answer
-pub asked_pressed : (S : Type 0) (kind : StoreKind S) (old new : NodeState S) (from to : Option Traffic)
-    (keys left : Option Remaining) (result : Result Pressed GroupFault)
+pub asked_answered : (S : Type 0) (kind : StoreKind S) (old new : NodeState S) (from to : Option Traffic)
+    (keys left : Option Remaining) (result : Result Answered GroupFault)
     → HasCampaignedAsAsked kind old new from to result → keys ≡ with_gift (Campaign ∷ []) left
-    → HasPressedKeyboard kind old new (around from keys) (around to left) result
-asked_pressed S kind old new from to keys left (Ok Bytes) h given = absurd h
-asked_pressed S kind old new from to keys left (Ok Campaigned) h given = (given, h)
-asked_pressed S kind old new from to keys left (Ok Ignored) h given = (given, h)
-asked_pressed S kind old new from to keys left (Ok (CampaignRefused f)) h given = (given, h)
-asked_pressed S kind old new from to keys left (Err e) (missing, h) given =
+    → HasAnsweredKeyboard kind old new (around from keys) (around to left) result
+asked_answered S kind old new from to keys left (Ok Bytes) h given = absurd h
+asked_answered S kind old new from to keys left (Ok Campaigned) h given = (given, h)
+asked_answered S kind old new from to keys left (Ok Ignored) h given = (given, h)
+asked_answered S kind old new from to keys left (Ok (CampaignRefused f)) h given = (given, h)
+asked_answered S kind old new from to keys left (Err e) (missing, h) given =
     (inl h.store, save_ended {gift = Campaign ∷ []} h given (prompted refl (omega arith) refl))
 
 -- typing, where no campaign was asked for
-pub bytes_pressed : {S : Type 0} (kind : StoreKind S) {old new : NodeState S} (at : Option Traffic)
+pub bytes_answered : {S : Type 0} (kind : StoreKind S) {old new : NodeState S} (at : Option Traffic)
     {keys : Option Remaining} (left via : Option Remaining) → HasTypedGiven old new via left (Ok tt) → keys ≡ with_gift [] via
-    → HasPressedKeyboard kind old new (around at keys) (around at left) (Ok Bytes)
-bytes_pressed kind at left via (typed, given, acts) none = (typed, gift_both [] (map Press typed) left none given, acts at)
+    → HasAnsweredKeyboard kind old new (around at keys) (around at left) (Ok Bytes)
+bytes_answered kind at left via (typed, given, acts) none = (typed, gift_both [] (map Press typed) left none given, acts at)
 
 pub bytes_refused : {S : Type 0} (kind : StoreKind S) {old new : NodeState S} (at : Option Traffic)
     {keys : Option Remaining} (left via : Option Remaining) {e : GroupFault} → HasTypedGiven old new via left (Err e)
-    → keys ≡ with_gift [] via → HasPressedKeyboard kind old new (around at keys) (around at left) (Err e)
+    → keys ≡ with_gift [] via → HasAnsweredKeyboard kind old new (around at keys) (around at left) (Err e)
 bytes_refused kind at left via (typed, lost, spent, given, due, acts) none =
     (inr spent, typing_ended at (typed, lost, spent, gift_both [] (map Press (typed ++ lost)) left none given, due, acts))

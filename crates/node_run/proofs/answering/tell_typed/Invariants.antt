@@ -1,5 +1,5 @@
 use Rattle.std.proofs.Common.{◌≡◌}
-use Rattle.node_run.proofs.press.tell_typed.Given as goal
+use Rattle.node_run.proofs.answering.tell_typed.Given as goal
 
 -- nothing has passed
 abbrev pub invariant-loop-byte : goal.invariant-loop-byte

@@ -1,8 +1,8 @@
-//! What a node does with what its keyboard gives.
+//! What a node does with what its keyboard gives before a turn.
 ghost use Rattle.std.specs.Prelude.{◌≡◌, ◌<◌, ◌↔◌, false, IsTrue, OnOk};
 ghost use Rattle.group_wire.specs.Turns.{SameReleased};
 ghost use Rattle.node_run.specs.Going.{around_of};
-ghost use Rattle.node_run.specs.Pressing.{HasCampaignedAsAsked, HasPressedKeyboard, HasTypedGiven, LeadsWithoutGap};
+ghost use Rattle.node_run.specs.Answering.{HasCampaignedAsAsked, HasAnsweredKeyboard, HasTypedGiven, LeadsWithoutGap};
 
 use crate::endpoints::Endpoints;
 use group_node::{Node, NodeFault};
@@ -14,7 +14,7 @@ use paxos_acceptor::Store;
 
 /// What a node did with what its keyboard gave.
 #[derive(Clone, Copy, Debug, PartialEq, Eq)]
-pub enum Pressed {
+pub enum Answered {
     /// It took the bytes, each once and in order.
     Bytes,
     /// It was asked to campaign, and did.
@@ -23,13 +23,6 @@ pub enum Pressed {
     Ignored,
     /// It was asked to campaign, and could not.
     CampaignRefused(NodeFault),
-}
-
-/// Returns true if the keyboard calls a node at which `waiting` keys wait from its rest: by a
-/// request, or by bytes if no key waits. While keys wait their batch is under way, and further
-/// bytes can wait for the next tick.
-pub fn is_calling<K: Keyboard>(keyboard: &K, waiting: usize) -> bool {
-    keyboard.has_request() || (waiting == 0 && keyboard.has_bytes())
 }
 
 /// Tells the wire of typed bytes.
@@ -80,7 +73,7 @@ fn leads_without_gap<S: Store>(node: &Node<'_, S>) -> bool
 fn campaign_when_asked<T: Wire, S: Store>(
     host: &mut Host<'_, S>,
     wire: &mut T,
-) -> Result<Pressed, GroupFault>
+) -> Result<Answered, GroupFault>
     requires works { host.old.protocol.is_stopped ≡ false }
     ensures works { OnOk result (host.new.protocol.is_stopped ≡ false) }
     ensures campaigned { HasCampaignedAsAsked S.kind host.old host.new
@@ -90,24 +83,24 @@ fn campaign_when_asked<T: Wire, S: Store>(
 {
     deeds_go_on::<S>();
     if leads_without_gap(host.node()) {
-        return Ok(Pressed::Ignored);
+        return Ok(Answered::Ignored);
     }
     match host.campaign(wire) {
-        Ok(()) => Ok(Pressed::Campaigned),
+        Ok(()) => Ok(Answered::Campaigned),
         Err(fault @ (NodeFault::Stopped | NodeFault::Store)) => Err(GroupFault::Node(fault)),
-        Err(fault) => Ok(Pressed::CampaignRefused(fault)),
+        Err(fault) => Ok(Answered::CampaignRefused(fault)),
     }
 }
 
 /// Looks at the keyboard before a turn, and campaigns if it asks for that, or types what it gives.
 /// Returns what the node did.
-pub fn press<T: Wire, K: Keyboard, S: Store>(
+pub fn answer_keyboard<T: Wire, K: Keyboard, S: Store>(
     host: &mut Host<'_, S>,
     endpoints: &mut Endpoints<T, K>,
-) -> Result<Pressed, GroupFault>
+) -> Result<Answered, GroupFault>
     requires works { host.old.protocol.is_stopped ≡ false }
     ensures works { OnOk result (host.new.protocol.is_stopped ≡ false) }
-    ensures pressed { HasPressedKeyboard S.kind host.old host.new
+    ensures answered { HasAnsweredKeyboard S.kind host.old host.new
         (around_of T.traffic K.remaining endpoints.old)
         (around_of T.traffic K.remaining endpoints.new) result }
     ensures stays { SameReleased host.old host.new }
@@ -118,5 +111,5 @@ pub fn press<T: Wire, K: Keyboard, S: Store>(
         return campaign_when_asked(host, &mut endpoints.wire);
     }
     type_given(host, endpoints)?;
-    Ok(Pressed::Bytes)
+    Ok(Answered::Bytes)
 }

@@ -11,8 +11,8 @@ use Rattle.group_wire.specs.Doings.{HasActed}
 use Rattle.group_wire.specs.Traffic.{Traffic}
 use Rattle.group_udp.specs.declared.fault.GroupFault.{GroupFault}
 use Rattle.group_udp.specs.declared.fault.GroupFault.TheVariants as group
-use Rattle.node_run.specs.declared.press.Pressed.{Pressed}
-use Rattle.node_run.specs.declared.press.Pressed.TheVariants.{Bytes, Campaigned, CampaignRefused, Ignored}
+use Rattle.node_run.specs.declared.answering.Answered.{Answered}
+use Rattle.node_run.specs.declared.answering.Answered.TheVariants.{Bytes, Campaigned, CampaignRefused, Ignored}
 use Rattle.node_run.specs.Going.{Around, FailsAt, HasEnded, HasReason}
 use Rattle.group_udp.specs.Prompts.{Remaining, with_gift}
 use Rattle.group_udp.specs.Refusals.{IsCycleRefusal}
@@ -40,7 +40,7 @@ HasTypedGiven old new from to (Err e) =
 -- Forbids: a node that ends since no ballot or no place is left; a leader with a gap that ignores
 -- the request.
 abbrev pub HasCampaignedAsAsked : {S : Type 0} → StoreKind S → NodeState S → NodeState S
-    → Option Traffic → Option Traffic → Result Pressed GroupFault → Type 0
+    → Option Traffic → Option Traffic → Result Answered GroupFault → Type 0
 HasCampaignedAsAsked kind old new from to (Ok Bytes) = ⊥
 HasCampaignedAsAsked kind old new from to (Ok Ignored) =
     LeadsWithoutGap old.protocol.known × HasActed old new from to []
@@ -55,19 +55,13 @@ HasCampaignedAsAsked kind old new from to (Err e) =
 
 -- What happens at a keyboard before a turn: typing of what it gave, or a campaign that it asked
 -- for, as the answer says.
-abbrev pub HasPressedKeyboard : {S : Type 0} → StoreKind S → NodeState S → NodeState S
-    → Around → Around → Result Pressed GroupFault → Type 0
-HasPressedKeyboard kind old new from to (Ok Bytes) =
+abbrev pub HasAnsweredKeyboard : {S : Type 0} → StoreKind S → NodeState S → NodeState S
+    → Around → Around → Result Answered GroupFault → Type 0
+HasAnsweredKeyboard kind old new from to (Ok Bytes) =
     (typed : List ℕ) × (from.keyboard ≡ with_gift (map Press typed) to.keyboard)
     × HasActed old new from.traffic to.traffic (map Press typed)
-HasPressedKeyboard kind old new from to (Ok Ignored) =
+HasAnsweredKeyboard kind old new from to (Ok answer) =
     (from.keyboard ≡ with_gift (Campaign ∷ []) to.keyboard)
-    × HasCampaignedAsAsked kind old new from.traffic to.traffic (Ok Ignored)
-HasPressedKeyboard kind old new from to (Ok Campaigned) =
-    (from.keyboard ≡ with_gift (Campaign ∷ []) to.keyboard)
-    × HasCampaignedAsAsked kind old new from.traffic to.traffic (Ok Campaigned)
-HasPressedKeyboard kind old new from to (Ok (CampaignRefused f)) =
-    (from.keyboard ≡ with_gift (Campaign ∷ []) to.keyboard)
-    × HasCampaignedAsAsked kind old new from.traffic to.traffic (Ok (CampaignRefused f))
-HasPressedKeyboard kind old new from to (Err e) =
+    × HasCampaignedAsAsked kind old new from.traffic to.traffic (Ok answer)
+HasAnsweredKeyboard kind old new from to (Err e) =
     IsCycleRefusal e × HasEnded [] old new from to 0 e

@@ -1,10 +1,10 @@
--- A pause at which a byte was written is a turn that writes it.
+-- A pause at which a byte was written ends a stretch that writes it.
 use Rattle.std.proofs.Common.{[], ◌∷◌, length, add-zero, append-nil, refl}
 use Rattle.std.proofs.KnownBytes.{Consumes-nil}
-use Rattle.machine_run.proofs.run.turn.Goals as goal
+use Rattle.machine_run.proofs.run.stretch.Goals as goal
 
-pub returns-in-Ok-clause-turn : goal.returns-in-Ok-clause-turn
-returns-in-Ok-clause-turn g c =
+pub returns-in-Ok-clause-stretch : goal.returns-in-Ok-clause-stretch
+returns-in-Ok-clause-stretch g c =
     let (mid, k, made, few, quiet, writes) = rw c.in-Wrote.is at c.run-made.ensures.pauses in (
       k,
       mid,

@@ -1,0 +1,12 @@
+use Rattle.std.proofs.Common.{inr}
+use Rattle.machine_run.proofs.commands.run_bytes.Goals as goal
+
+pub returns : goal.returns
+returns g c = record {
+  runs = inr (
+    c.in_ok-program.program,
+    c.in_ok-program.ensures.ok.0,
+    c.in_ok-program.ensures.ok.1,
+    c.run_loaded.ensures.runs,
+  );
+}

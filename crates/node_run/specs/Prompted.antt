@@ -1,0 +1,26 @@
+-- What a node is prompted to do in its turns, by what its keyboard gave.
+use Rattle.std.specs.Prelude.{◌≡◌, ◌≤◌, ℕ, Bool, true, false, List, [], ◌++◌, filter, length}
+use Rattle.group_node.specs.Deeds.{Deed, Run}
+use Rattle.group_udp.specs.Prompts.{bytes_in, campaigns_in}
+
+-- True of a prompt to run the machine.
+abbrev pub is_run : Deed → Bool
+is_run (Run steps) = true
+is_run _ = false
+
+-- How often these prompts run the machine: once in each turn.
+abbrev pub turns_in : List Deed → ℕ
+turns_in prompts = length (filter is_run prompts)
+
+-- The prompts of a node in so many turns, at which its keyboard gave the prompts `gift`. What was
+-- typed is what the keyboard gave, each byte once and in order. If the serials were spent, the last
+-- bytes that it gave were lost.
+-- Allows: a campaign that was asked for, and could not begin, or that a leader has ignored.
+-- Forbids: a byte that is typed twice; a campaign that nobody asked for.
+pub record IsPrompted (gift : List Deed) (turns : ℕ) (spent : Type 0) (prompts : List Deed)
+    : Type 0 where
+  pub lost : List ℕ
+  pub typed : bytes_in gift ≡ bytes_in prompts ++ lost
+  pub all : ¬ spent → lost ≡ []
+  pub campaigns : campaigns_in prompts ≤ campaigns_in gift
+  pub made : turns_in prompts ≡ turns
