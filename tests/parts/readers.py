@@ -4,9 +4,9 @@ datagram's names are here too."""
 
 import collections
 
-from shared.datagram import Message, Refused, bytes_of, must, text_of
-from shared.datagram import message_of as datagram
 from shared.record import PLACES
+from shared.replica.datagram import Message, Refused, bytes_of, must, text_of
+from shared.replica.datagram import message_of as datagram
 
 # Where a segment is in its file, its number, and how many procedures it has.
 Segment = collections.namedtuple("Segment", "begin length number count")

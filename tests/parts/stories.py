@@ -1,14 +1,14 @@
 """Stories of groups for tests/draw and tests/replay: what happens to a group by chance, as a script
 of `sim` and as the traces that its nodes would write. The datagrams are those of
-tools/group/shared/group.py, which tests/draw compares with `sim`; the output is what `pgroup run`
-prints on the keys that a node has learned."""
+tools/group/shared/replica/group.py, which tests/draw compares with `sim`; the output is what
+`pgroup run` prints on the keys that a node has learned."""
 
 import collections
 import random
 
-from shared.group import Group, GroupRefused
-from shared.protocol import ALL, keys_in
-from shared.script import Event, text_of_script
+from shared.replica.group import Group, GroupRefused
+from shared.replica.protocol import ALL, keys_in
+from shared.replica.script import Event, text_of_script
 
 from .echo_code import ECHO
 from .files import number

@@ -70,8 +70,9 @@ class Tree:
 def put_scripts(tree):
     for name in manual.SCRIPTS:
         tree.copy(os.path.join(manual.GROUP, name), f"{LIBRARY}/tools/group/{name}")
-    for path in sorted(glob.glob(os.path.join(manual.GROUP, "shared", "*.py"))):
-        tree.copy(path, f"{LIBRARY}/tools/group/shared/{os.path.basename(path)}")
+    shared = os.path.join(manual.GROUP, "shared", "**", "*.py")
+    for path in sorted(glob.glob(shared, recursive=True)):
+        tree.copy(path, f"{LIBRARY}/tools/{os.path.relpath(path, manual.TOOLS)}")
     for name in ("console", "tools/bash/provide.bash"):
         tree.copy(os.path.join(TOP, name), f"{LIBRARY}/{name}")
     tree.link(f"{LIBRARY}/run", "bin/pgroup")

@@ -4,12 +4,12 @@ where its node has ended by D2."""
 import os
 import subprocess
 
-from shared.unsaved import why_unsaved
+from shared.supervising.unsaved import why_unsaved
 
 from ..checks import expect
 from ..files import file_with
 from ..group import await_that
-from ..program import Broken
+from ..program import SCRIPTS, Broken
 from ..supervised import group_of
 
 # Runs a command in a namespace of mounts, with a small disk at a folder, and other words after it.
@@ -75,10 +75,10 @@ def check_reasons(folder):
 
 def of_small_disk(small, what):
     """What is found out on a small disk in which a command was run."""
-    script = "import sys; from shared.unsaved import why_unsaved; print(why_unsaved(sys.argv[1]))"
+    script = f"import sys; from {why_unsaved.__module__} import why_unsaved; "
+    script += "print(why_unsaved(sys.argv[1]))"
     command = [*SMALL, DISK.format(what), small, "python3", "-c", script, f"{small}/record"]
-    tools = os.path.dirname(os.path.dirname(os.path.realpath(why_unsaved.__code__.co_filename)))
-    env = {**os.environ, "PYTHONPATH": tools, "PYTHONDONTWRITEBYTECODE": "1"}
+    env = {**os.environ, "PYTHONPATH": SCRIPTS, "PYTHONDONTWRITEBYTECODE": "1"}
     done = subprocess.run(command, check=False, capture_output=True, env=env)
     if done.returncode != 0:
         raise Broken(f"{what}: {done}")

@@ -4,9 +4,9 @@ of docs/FORMATS.md."""
 
 import collections
 
-from shared.protocol import keys_in
 from shared.record import NOOP, Batch
-from shared.shown import difference_of
+from shared.replica.protocol import keys_in
+from shared.replica.shown import difference_of
 
 # What `sim` has shown and which refusals it has printed, and what is known without it: the typed
 # characters by node, start and serial; what nodes have learned; what should be shown, but for the

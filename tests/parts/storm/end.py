@@ -3,9 +3,9 @@ until it leads, and all goes on until nothing waits."""
 
 import collections
 
-from shared.group import MOST_DELIVERIES
-from shared.protocol import MOST_AGAIN, MOST_TOLD
 from shared.record import MOST_KEYS
+from shared.replica.group import MOST_DELIVERIES
+from shared.replica.protocol import MOST_AGAIN, MOST_TOLD
 
 from ..group import keys_of
 from .checks import output_on

@@ -3,7 +3,7 @@ them out, and has much of others."""
 
 import heapq
 
-from shared.script import FAILURES
+from shared.replica.script import FAILURES
 
 from .end import ending_of, may_settle
 from .play import Play

@@ -4,11 +4,11 @@ script by that: which keys were typed, what each node has learned, and what `sim
 import bisect
 import collections
 
-from shared.consoles import texts_of
-from shared.datagram import value_text
-from shared.group import Group, GroupRefused
-from shared.script import SETTLE, SHOW, Event, Line, text_of_script
-from shared.shown import known_of
+from shared.replica.consoles import texts_of
+from shared.replica.datagram import value_text
+from shared.replica.group import Group, GroupRefused
+from shared.replica.script import SETTLE, SHOW, Event, Line, text_of_script
+from shared.replica.shown import known_of
 
 # What a node has learned: the line, the node and the number of its start, the place, and the value
 # as it is shown.

@@ -4,8 +4,8 @@ scripts are made small for a condition that was made up."""
 import functools
 import random
 
-from shared.script import SETTLE, Event
-from shared.shown import NodeLine, Shown
+from shared.replica.script import SETTLE, Event
+from shared.replica.shown import NodeLine, Shown
 
 from ..checks import expect
 from .checks import Case, finding_of

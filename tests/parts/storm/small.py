@@ -1,6 +1,6 @@
 """Makes a script of tests/storm small: leaves out what is not needed for what was found."""
 
-from shared.group import GroupRefused
+from shared.replica.group import GroupRefused
 
 from .end import end_play
 from .play import play_again

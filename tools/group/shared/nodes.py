@@ -1,5 +1,5 @@
-"""The command line of a node, free addresses, and what the system says of UDP ports. The scripts of
-this folder share it with the tests and benches of groups."""
+"""The command line of a node, free addresses, and what the system says of UDP ports and processes.
+The scripts of `tools/group` share it with the tests and benches of groups."""
 
 import os
 import random
@@ -67,3 +67,10 @@ def children_of(pid):
             return [int(it) for it in children.read().split()]
     except OSError:
         return []
+
+
+def stat_of(pid):
+    """Returns the fields of a process's /proc/PID/stat after its name. The first is its state, the
+    second the process that has started it."""
+    with open(f"/proc/{pid}/stat", encoding="ascii", errors="replace") as stat:
+        return stat.read().rpartition(")")[2].split()

@@ -6,6 +6,7 @@ import stat
 
 from .codes import with_sentence
 from .ends import Log
+from .nodes import stat_of
 from .record import PLACES, Damaged, Head, places_of, read_record, record_of, text_of
 from .words import text_of as text_of_address
 
@@ -105,10 +106,9 @@ def refusals_at(address):
 
 
 def state_of(pid):
-    """The state of a process, and the number of the one that has started it, or None."""
+    """The state of a process, and the one that has started it. Both are None where it has ended."""
     try:
-        with open(f"/proc/{pid}/stat", encoding="ascii", errors="replace") as file:
-            return file.read().rpartition(")")[2].split()[:2]
+        return stat_of(pid)[:2]
     except OSError:
         return None, None
 

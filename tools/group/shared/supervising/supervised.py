@@ -4,9 +4,10 @@ import os
 import shlex
 import sys
 
-from .words import address_of
+from ..words import address_of
 
-TOP = os.path.join(os.path.dirname(os.path.realpath(__file__)), "..", "..", "..")
+SHARED = os.path.dirname(os.path.dirname(os.path.realpath(__file__)))
+TOP = os.path.join(SHARED, "..", "..", "..")
 
 
 def add_words(add):

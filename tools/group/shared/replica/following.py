@@ -3,11 +3,11 @@ and follows it call by call with a group apart from the program (`group.py`)."""
 
 import collections
 
+from ..record import Damaged, Record, record_of
+from . import trace
 from .group import Group
 from .protocol import ALL
-from .record import Damaged, Record, record_of
 from .script import Event
-from . import trace
 
 # A call in the one order: its event, what happened, and the call itself, which is None for the
 # crash at the end of a process.

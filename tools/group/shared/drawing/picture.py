@@ -4,8 +4,8 @@ node, time from left to right."""
 import datetime
 import math
 
+from ..replica.datagram import text_of
 from . import svg
-from .datagram import text_of
 from .layout import Layout
 from .legend import STYLE, legend, legend_height
 from .scene import HEARD, LATER, LOST

@@ -4,8 +4,8 @@ program."""
 import collections
 import subprocess
 
+from ..record import text_of
 from .datagram import value_text
-from .record import text_of
 
 # The line of a node, its console as bytes; and all that a `show` prints.
 NodeLine = collections.namedtuple("NodeLine", "is_up known promised console")

@@ -1,7 +1,7 @@
 """Writes a node's log as the store of the program does, byte for byte (docs/FORMATS.md)."""
 
-from .datagram import number
-from .record import MOST_KEYS, PROMISE, SECTOR, START, VOTE, Ballot, Batch
+from ..record import MOST_KEYS, PROMISE, SECTOR, START, VOTE, Ballot, Batch
+from ..replica.datagram import number
 
 # The ballot under which a renewed session has voted, and the start of node 1 that has its keys.
 FIRST = Ballot(1, 1)

@@ -7,7 +7,7 @@ the greatest ballot that a majority reports, and the records are read by this ru
 
 import collections
 
-from .record import NOOP, PLACES, text_of
+from ..record import NOOP, PLACES, text_of
 
 # What was read: the characters in order; at how many places; how many keys were chosen again; and
 # how many stand above the first place without a vote.

@@ -3,7 +3,7 @@
 import bisect
 import collections
 
-from .record import PLACES
+from ..record import PLACES
 
 # The changes of a record: one more start; a promise; a vote, which is a promise too.
 Start = collections.namedtuple("Start", "")

@@ -6,10 +6,10 @@ import select
 import socket
 import time
 
-from .files import Refused
+from ..files import Refused
+from ..record import Ballot
+from ..words import text_of
 from .office import Beat
-from .record import Ballot
-from .words import text_of
 
 # pgroup beat SESSION NODE ROUND NODE AGE LED HEARS: a ballot of round 0 is none, LED is 0 or 1, and
 # HEARS has a digit for each node.

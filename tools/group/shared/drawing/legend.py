@@ -1,7 +1,7 @@
 """The colours of a picture, and the lines below it that say what they mean."""
 
+from ..replica.datagram import KINDS
 from . import svg
-from .datagram import KINDS
 
 COLOURS = {
     "prepare": "#1d4fa8", "promise": "#4d8fe0", "accept": "#1b6e34", "accepted": "#3fa35a",

@@ -5,8 +5,8 @@ import errno
 import os
 import stat
 
-from .record import LOG_HEADER, RETIRED, Damaged, Reader, owner_of, read_record
-from .watch import is_at, node_processes
+from ..record import LOG_HEADER, RETIRED, Damaged, Reader, owner_of, read_record
+from ..watch import is_at, node_processes
 
 
 class Refused(Exception):

@@ -3,7 +3,7 @@ apart from the program."""
 
 import collections
 
-from .record import LAST_SERIAL, MOST_KEYS, PLACES, Ballot, Batch
+from ..record import LAST_SERIAL, MOST_KEYS, PLACES, Ballot, Batch
 
 # A datagram's fields, by their names, and its votes: a place, a ballot and a value each.
 Message = collections.namedtuple("Message", "kind sender fields")

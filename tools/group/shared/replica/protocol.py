@@ -2,8 +2,8 @@
 the program: all of it but the machine. Each call returns the change that it saves, or None, and the
 messages that it sends, each with whom it is for."""
 
+from ..record import LAST_SERIAL, LAST_START, MOST_KEYS, NOOP, PLACES, Ballot, Batch
 from .datagram import Message
-from .record import LAST_SERIAL, LAST_START, MOST_KEYS, NOOP, PLACES, Ballot, Batch
 from .stored import Promise, Start, Vote
 
 # Whom a message to all is for.

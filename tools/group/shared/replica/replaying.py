@@ -1,9 +1,9 @@
 """Compares what a group did, by its traces, with what `sim` makes of the same events, and with the
 files that the nodes left."""
 
+from ..record import Damaged, read_record
 from .following import Differs, Following
 from .group import Group
-from .record import Damaged, read_record
 from .script import SHOW, text_of_event
 from .shown import difference_of, known_of, run_sim, shows_of
 from .trace import read_trace

@@ -9,16 +9,16 @@ import socket
 import subprocess
 import time
 
-from .beats import text_of_address_fault
-from .codes import sentence_of, with_sentence
-from .ends import end_of
-from .files import (
+from ..codes import sentence_of, with_sentence
+from ..ends import end_of
+from ..files import (
     Refused, check_session, open_console, promised_of, refuse_lasting, say, text_of_fault,
 )
-from .nodes import command_of
+from ..nodes import command_of, stat_of
+from ..words import text_of
+from .beats import text_of_address_fault
 from .speech import Speech, is_log_asked
 from .unsaved import why_unsaved
-from .words import text_of
 
 PR_SET_PDEATHSIG = 1
 LIBC = ctypes.CDLL(None)
@@ -34,19 +34,13 @@ def end_with(parent):
         os._exit(1)
 
 
-def state_of(pid):
-    """The fields of a process's /proc/PID/stat after its name."""
-    with open(f"/proc/{pid}/stat", encoding="ascii", errors="replace") as stat:
-        return stat.read().rpartition(")")[2].split()
-
-
 def activity_of(pid):
     """What grows while a process runs: its processor time, and how often it was given a processor.
     A node that has nothing to do takes a turn every 10 to 200 milliseconds."""
     try:
         with open(f"/proc/{pid}/status", encoding="ascii", errors="replace") as status:
             switches = [int(line.split()[1]) for line in status if "ctxt_switches" in line]
-        return switches, state_of(pid)[11:13]
+        return switches, stat_of(pid)[11:13]
     except OSError:
         return None
 
@@ -173,7 +167,7 @@ class Node:
 
     def what_holds(self):
         try:
-            state = state_of(self.process.pid)[0]
+            state = stat_of(self.process.pid)[0]
         except OSError:
             state = ""
         if state in ("T", "t"):

@@ -1,0 +1,1 @@
+"""Draws what a script or traces of a group say, as an SVG picture: `draw`."""
