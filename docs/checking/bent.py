@@ -1,5 +1,5 @@
-"""Which must-fail edits bend a definition: those whose old text stands in it, or which bend one that
-it stands on and name it in their first line."""
+"""Which must-fail edits bend a definition: those whose old text stands in it, or which bend one
+that it stands on and name it in their first line."""
 import os
 import re
 
@@ -8,8 +8,8 @@ from .tree import text_of
 
 # The file of an edit, or a text that it takes out of that file.
 PART = re.compile(r"^(file|old): ?(.*)$", re.M)
-# A definition that an edit's first line names as bent: "Here `A` ..", "Here the definition `A`, and so
-# `B`, ..".
+# A definition that an edit's first line names as bent: "Here `A` ..", "Here the definition `A`, and
+# so `B`, ..".
 NAMED = re.compile(r"(?:Here|definition|and so) `(\w+)`")
 
 
@@ -35,7 +35,9 @@ def benders(crate, definitions):
     for path in tree.files_below(f"crates/{crate}/must-fail", ".edit"):
         taken, named = list(taken_by(path)), named_by(path)
         for it in definitions:
-            is_taken = any(it.path == f"crates/{crate}/{at}" and text in it.body for at, text in taken)
+            is_taken = any(
+                it.path == f"crates/{crate}/{at}" and text in it.body for at, text in taken
+            )
             if is_taken or it.name in named:
                 found.setdefault(it.name, set()).add(os.path.basename(path)[: -len(".edit")])
     return found

@@ -13,10 +13,12 @@ The definitions that public contracts cite, and those with a source on which the
 by" names the must-fail edits that change the definition; a law or a call refuses each. A type has none, since it claims
 nothing. "Simple" is Lamport, "Paxos Made Simple" (2001); "manual" is the UCSD Pascal II.0 manual.
 """
+COLUMNS = "| Name | What it is | Source | Bent by |\n|---|---|---|---|\n"
 # Where the claims of the main theorem are defined.
 HEADLINE = "crates/group_world/specs/Headline.antt"
 WORDS = r"(?:(?:abbrev|unfoldable|opaque|pub|record|data|mixfix|infix[lr]?) +)+"
 BEGINS = re.compile(rf"^({WORDS})(?:\d+ +)?([^\s:(){{}}]+)")
+CASE = re.compile(r"^ +(?:pub )?([A-Z]\w*) :", re.M)
 LABEL = re.compile(r"(?:^| )(?:Source|Allows|Forbids): ")
 # A type of values, or one for each type of them.
 TYPE = re.compile(rf"{WORDS}\S+ : (?:Type 0 → )*Type 0(?: where)?$")
@@ -61,10 +63,12 @@ def definitions_of(crate):
 
 
 def imports_of(text):
-    """The definitions of the repository that a source imports: the name here, and the module with the name there."""
+    """The definitions of the repository that a source imports: the name here, and the module with
+    the name there."""
     found = {}
     own = set(tree.crates())
-    for module, names in re.findall(r"use Rattle\.(\w+\.specs\.(?!declared)[\w.]+)\.\{([^}]*)\}", text):
+    uses = re.findall(r"use Rattle\.(\w+\.specs\.(?!declared)[\w.]+)\.\{([^}]*)\}", text)
+    for module, names in uses:
         if module.split(".")[0] in own:
             for name in filter(None, (it.strip() for it in names.split(","))):
                 there, _, here = name.partition(" as ")
@@ -92,7 +96,8 @@ def listed(functions):
     by_name, homes = by_names(), {}
     for of_name in by_name.values():
         for it in of_name:
-            for case in re.findall(r"^ +(?:pub )?([A-Z]\w*) :", it.body, re.M) if " data " in f" {it.body[:20]} " else ():
+            is_data = " data " in f" {it.body[:20]} "
+            for case in CASE.findall(it.body) if is_data else ():
                 homes.setdefault(case, []).append(it)
     found = []
     for name, place in sorted(cited(functions).items()):
@@ -141,25 +146,33 @@ def page(definitions):
         parts.append(f"\n## {crate}\n")
         for path in sorted({it.path for it in of_crate}):
             lines = text_of(path).split("\n")
-            order = {it.name: lines.index(it.body.split("\n")[0]) for it in of_crate if it.path == path}
-            parts.append(f"\n[{os.path.basename(path)}](../{path})\n\n| Name | What it is | Source | Bent by |\n|---|---|---|---|\n")
-            for it in sorted((it for it in of_crate if it.path == path), key=lambda it: order[it.name]):
+            order = {
+                it.name: lines.index(it.body.split("\n")[0]) for it in of_crate if it.path == path
+            }
+            parts.append(f"\n[{os.path.basename(path)}](../{path})\n\n{COLUMNS}")
+            here = [it for it in of_crate if it.path == path]
+            for it in sorted(here, key=lambda it: order[it.name]):
                 sentence = it.sentence().replace("|", "\\|")
-                parts.append(f"| `{it.name}` | {sentence} | {it.source()} | {edits.get(it.name, '')} |\n")
+                parts.append(
+                    f"| `{it.name}` | {sentence} | {it.source()} | {edits.get(it.name, '')} |\n"
+                )
     return "".join(parts)
 
 
 def not_bent(definitions):
-    """Of these definitions those that a promise rests on, that are no types, and that no edit bends."""
+    """Of these definitions those that a promise rests on, that are no types, and that no edit
+    bends."""
     edits = {crate: bent_in(crate) for crate in tree.crates()}
-    return [it for it in definitions if it.is_based_on() and not it.is_type() and it.name not in edits[it.crate]]
+    wanted = [it for it in definitions if it.is_based_on() and not it.is_type()]
+    return [it for it in wanted if it.name not in edits[it.crate]]
 
 
 def check(functions, is_write):
     definitions = listed(functions)
     for it in definitions:
         if not it.sentence():
-            fault(f"{it.path}: the comment of {it.name} has no first sentence that ends with a full stop")
+            lacks = "has no first sentence that ends with a full stop"
+            fault(f"{it.path}: the comment of {it.name} {lacks}")
     definitions = definitions + below(definitions)
     for it in not_bent(definitions):
         fault(f"{it.path}: no must-fail edit bends {it.name}")

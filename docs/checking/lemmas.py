@@ -1,4 +1,5 @@
-"""Lemmas: something else than itself cites each, but for those of base and what the prover asks for."""
+"""Lemmas: something else than itself cites each, but for those of base and what the prover asks
+for."""
 import re
 
 from . import tree
@@ -12,15 +13,21 @@ WORD = re.compile(r"[A-Za-z_][\w'-]*")
 
 
 def texts_of_proofs():
-    """What may cite a lemma: the proofs and the sources, by their paths, without the comments of proofs."""
+    """What may cite a lemma: the proofs and the sources, by their paths, without the comments of
+    proofs."""
     for crate in tree.all_crates():
         for path in tree.files_below(f"crates/{crate}", (".antt", ".rt")):
-            yield path, re.sub(r"--.*$", "", text_of(path), flags=re.M) if path.endswith(".antt") else text_of(path)
+            text = text_of(path)
+            is_proof = path.endswith(".antt")
+            yield path, re.sub(r"--.*$", "", text, flags=re.M) if is_proof else text
 
 
 def lemmas_of(text):
-    """The lemmas of a file of proofs, each with its indent: what has a clause, and no field of a record."""
-    fields = {it.start(1) + at.start() for it in RECORD.finditer(text) for at in SIGNATURE.finditer(it[1])}
+    """The lemmas of a file of proofs, each with its indent: what has a clause, and no field of a
+    record."""
+    fields = {
+        it.start(1) + at.start() for it in RECORD.finditer(text) for at in SIGNATURE.finditer(it[1])
+    }
     for it in SIGNATURE.finditer(text):
         clause = re.compile(rf"^{it[1]}{re.escape(it[2])}(?![\w'-])(?! :)", re.M)
         if it.start() not in fields and clause.search(text):
@@ -28,18 +35,21 @@ def lemmas_of(text):
 
 
 def others(text, indent, name):
-    """The lines of a text without a lemma's own: its signature and clauses, and what stands below them."""
+    """The lines of a text without a lemma's own: its signature and clauses, and what stands below
+    them."""
     is_own = False
     for line in text.split("\n"):
         at = len(line) - len(line.lstrip())
         if line.strip() and at <= indent:
-            is_own = re.match(rf" {{{indent}}}(?:pub )?{re.escape(name)}(?![\w'-]).* [:=]", line) is not None
+            own = rf" {{{indent}}}(?:pub )?{re.escape(name)}(?![\w'-]).* [:=]"
+            is_own = re.match(own, line) is not None
         if not is_own:
             yield line
 
 
 def may_cite(path, home):
-    """Whether a file may cite the lemmas of another: of its own crate, and what all crates share."""
+    """Whether a file may cite the lemmas of another: of its own crate, and what all crates
+    share."""
     module = home.removeprefix("crates/").removesuffix("antt").replace("/", ".")
     return path.split("/")[1] == home.split("/")[1] or SHARED_LEMMAS.match(module) is not None
 

@@ -1,5 +1,6 @@
-"""docs/man, which is made from the help texts (tools/packing/manual.py): of the scripts always, and of the program where it is at
-hand: the one that PGROUP names, or the recorded one if it was made of these sources."""
+"""docs/man, which is made from the help texts (tools/packing/manual.py): of the scripts always, and
+of the program where it is at hand: the one that PGROUP names, or the recorded one if it was made of
+these sources."""
 import gzip
 import hashlib
 import importlib
@@ -15,13 +16,16 @@ FOLDER = "docs/man"
 
 
 def recorded(is_of_any_sources=False):
-    """The bytes of the recorded program, or None where it is of other sources or for another machine."""
+    """The bytes of the recorded program, or None where it is of other sources or for another
+    machine."""
     if not tree.is_file("program/record"):
         return None
-    values = dict(line.split(" ", 1) for line in tree.text_of("program/record").splitlines() if line[:1] not in ("#", ""))
+    lines = tree.text_of("program/record").splitlines()
+    values = dict(line.split(" ", 1) for line in lines if line[:1] not in ("#", ""))
     script = '. "$0/tools/bash/sources.bash"; sum_of_sources "$0"'
-    sources = subprocess.run(["bash", "-c", script, tree.TOP], check=True, capture_output=True).stdout.decode().strip()
-    if values["machine"] != os.uname().machine or not is_of_any_sources and values["sources"] != sources:
+    done = subprocess.run(["bash", "-c", script, tree.TOP], check=True, capture_output=True)
+    is_of_these = values["sources"] == done.stdout.decode().strip()
+    if values["machine"] != os.uname().machine or not (is_of_these or is_of_any_sources):
         return None
     with open(f"{tree.TOP}/program/pgroup.gz", "rb") as file:
         program = gzip.decompress(file.read())
@@ -63,6 +67,7 @@ def check(is_write):
             fault(f"{path}: is not what docs/check --write makes of the help text")
     there = {os.path.basename(it) for it in tree.files_below(FOLDER, ".1")}
     if of_program is None:
-        print("docs: the program of these sources is not at hand, so its man pages are not compared")
+        lacks = "the program of these sources is not at hand"
+        print(f"docs: {lacks}, so its man pages are not compared")
     elif there != set(pages):
         fault(f"{FOLDER}: has {', '.join(sorted(there ^ set(pages)))} too many or too few")

@@ -1,4 +1,4 @@
-"""Rules of the pages and of the layout: links, LIBRARY's Rust, names of definitions, widths of lines, imports."""
+"""Rules of the pages and of the layout: links, LIBRARY's Rust, names of definitions, imports."""
 import importlib
 import os
 import re
@@ -32,7 +32,8 @@ SHOWN = [
 
 
 def check_rust_shown():
-    marks = r"^// docs/LIBRARY\.md shows the lines from here on:\n(.*?)^// docs/LIBRARY\.md shows the lines up to here\.$"
+    page = r"^// docs/LIBRARY\.md shows the lines"
+    marks = rf"{page} from here on:\n(.*?){page} up to here\.$"
     tested = [re.findall(marks, text_of(path), re.M | re.S) for path in SHOWN]
     shown = re.findall(r"^```rust\n(.*?)^```$", text_of("docs/LIBRARY.md"), re.M | re.S)
     for path, found in zip(SHOWN, tested):
@@ -57,8 +58,8 @@ PROGRAM = "crates/command_line/src/program.rt"
 
 
 def codes_of_program():
-    """The codes that `pgroup help codes` prints, and their sentences. A line that begins with ten blanks goes on with the sentence
-    before it."""
+    """The codes that `pgroup help codes` prints, and their sentences. A line that begins with ten
+    blanks goes on with the sentence before it."""
     table = re.search(r'^pub const CODES: &str = "[^\n]*\n(.*?)^";$', text_of(CODES), re.M | re.S)
     lines = re.sub(r"\n {10}", " ", table[1]).splitlines() if table else []
     return [re.fullmatch(r"(?:  (\S+) +)?(.*)", it).groups() for it in lines]
@@ -68,12 +69,15 @@ def check_sentences():
     """The sentences of the codes in docs/FORMATS.md are those of the program and of the scripts."""
     sys.path.insert(0, f"{tree.TOP}/tools/group")
     sentences = importlib.import_module("shared.codes").SENTENCES
-    table = text_of("docs/FORMATS.md").partition("| Code | Its sentence |\n|---|---|\n")[2].partition("\n\n")[0]
+    behind = text_of("docs/FORMATS.md").partition("| Code | Its sentence |\n|---|---|\n")[2]
+    table = behind.partition("\n\n")[0]
     there = [tree.cells_of(it) for it in table.split("\n")]
-    for path, of_path in (("tools/group/shared/codes.py", list(sentences.items())), (CODES, codes_of_program())):
+    of_scripts = "tools/group/shared/codes.py", list(sentences.items())
+    for path, of_path in (of_scripts, (CODES, codes_of_program())):
         if there != [[f"`{code}`", text] for code, text in of_path]:
             fault(f"docs/FORMATS.md: the sentences of the codes are not those of {path}")
-    named = set(re.findall(r"(?<![\w.])[FOGEDV]\d+\b", text_of("docs/FORMATS.md"))) - sentences.keys()
+    named = set(re.findall(r"(?<![\w.])[FOGEDV]\d+\b", text_of("docs/FORMATS.md")))
+    named -= sentences.keys()
     if named - {"G13"}:
         fault(f"docs/FORMATS.md: has codes without a sentence: {', '.join(sorted(named))}")
 
@@ -84,7 +88,8 @@ def check_version():
     newest = importlib.import_module("packing.layout").version_of(tree.TOP)[0]
     said = re.findall(r'^const VERSION: &str = "(.*)";$', text_of(PROGRAM), re.M)
     if said != [newest]:
-        fault(f"{PROGRAM}: says the version {', '.join(said)}, and the newest of CHANGELOG.md is {newest}")
+        text = f"the version {', '.join(said)}, and the newest of CHANGELOG.md is {newest}"
+        fault(f"{PROGRAM}: says {text}")
 
 
 # Where the names are that pages may have, and what stands for any name.
@@ -93,8 +98,10 @@ ANY_NAME = re.compile(r"(?:^|_)xyz(?:_|$)")
 
 
 def check_names_shown(pages):
-    """A name of several words that a page has between backticks is in some source, or is the name of a file or a crate."""
-    shown = {path: {it for it in re.findall(r"`([a-z]\w*_\w*)`", text_of(path)) if not ANY_NAME.search(it)} for path in pages}
+    """A name of several words that a page has between backticks is in some source, or is the name
+    of a file or a crate."""
+    shown = {path: set(re.findall(r"`([a-z]\w*_\w*)`", text_of(path))) for path in pages}
+    shown = {path: {it for it in names if not ANY_NAME.search(it)} for path, names in shown.items()}
     missing = set().union(*shown.values()) - set(tree.all_crates())
     for folder in SOURCES:
         for path in tree.files_below(folder, ""):
@@ -102,12 +109,17 @@ def check_names_shown(pages):
             if missing and not path.endswith((".md", ".code")):
                 with open(f"{tree.TOP}/{path}", encoding="utf-8", errors="replace") as file:
                     text = file.read()
-                missing -= {it for it in missing if it in text and re.search(rf"(?<!\w){it}(?!\w)", text)}
+                there = {it for it in missing if it in text}
+                missing -= {it for it in there if re.search(rf"(?<!\w){it}(?!\w)", text)}
     for path, names in shown.items():
         for name in sorted(names & missing):
             fault(f"{path}: names {name}, which is nowhere else")
 
 
+# What begins a definition, and its name.
+DEFINED = re.compile(
+    r"^(?:(?:abbrev|unfoldable|opaque|pub|record|data) +)+([A-Za-z_][\w'-]*)", re.M
+)
 # The module that has names of another on purpose.
 BATCHES = "crates/paxos_msg/specs/Batches.antt"
 
@@ -117,35 +129,30 @@ def check_names():
     for crate in tree.crates():
         for path in tree.files_below(f"crates/{crate}/specs", ".antt"):
             if path != BATCHES:
-                for name in re.findall(r"^(?:(?:abbrev|unfoldable|opaque|pub|record|data) +)+([A-Za-z_][\w'-]*)", text_of(path), re.M):
+                for name in DEFINED.findall(text_of(path)):
                     homes.setdefault(name, set()).add(path)
     for name, paths in sorted(homes.items()):
         if len(paths) > 1 and name not in ("mod", "use"):
             fault(f"{' and '.join(sorted(paths))}: both define {name}")
 
 
-def check_widths():
-    spared = re.compile(r"\s*(?:(?:pub |ghost )*use |#|\")")
-    for folder, most in (("src", 100), ("specs", 100), ("proofs", 140)):
-        for crate in tree.all_crates():
-            for path in tree.files_below(f"crates/{crate}/{folder}", ("rt", "antt")):
-                for number, line in enumerate(text_of(path).split("\n"), 1):
-                    if len(line) > most and not spared.match(line):
-                        fault(f"{path}:{number}: has {len(line)} columns, more than {most}")
-
-
-# What a proof may cite of the proofs of another crate: the lemmas of base, and two modules on std's lists and maps.
-SHARED_LEMMAS = re.compile(r"base\.|paxos_learner\.proofs\.OnePlace\.|group_protocol\.proofs\.Elements\.")
+# What a proof may cite of the proofs of another crate: the lemmas of base, and two modules on std's
+# lists and maps.
+SHARED_LEMMAS = re.compile(
+    r"base\.|paxos_learner\.proofs\.OnePlace\.|group_protocol\.proofs\.Elements\."
+)
 
 
 def check_citations():
     crates = tree.all_crates()
     for crate in crates:
         for path in tree.files_below(f"crates/{crate}/proofs", ".antt"):
-            for cited in re.findall(r"^(?:pub )?use Rattle\.(\w+\.proofs\.\S*)", text_of(path), re.M):
+            uses = re.compile(r"^(?:pub )?use Rattle\.(\w+\.proofs\.\S*)", re.M)
+            for cited in uses.findall(text_of(path)):
                 other = cited.split(".")[0]
                 if other in crates and other != crate and not SHARED_LEMMAS.match(cited):
-                    fault(f"{path}: cites {cited}, a lemma of another crate; what it needs is a clause or a law there")
+                    needs = "what it needs is a clause or a law there"
+                    fault(f"{path}: cites {cited}, a lemma of another crate; {needs}")
 
 
 def is_used(name, text):

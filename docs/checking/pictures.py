@@ -1,5 +1,6 @@
-"""docs/pictures, which tools/group/draw makes of scripts: with the program that PGROUP names, or the recorded one, whatever its
-sources are. What `sim` prints of a script does not change with them."""
+"""docs/pictures, which tools/group/draw makes of scripts: with the program that PGROUP names, or
+the recorded one, whatever its sources are. What `sim` prints of a script does not change with
+them."""
 import os
 import subprocess
 import tempfile
@@ -15,7 +16,10 @@ SCRIPTS = ("examples/group/leader_falls.script", "examples/group/key_twice.scrip
 
 def picture_of(script, program):
     """What draw makes of a script."""
-    words = [f"{tree.TOP}/tools/group/draw", f"{tree.TOP}/{script}", "--file", f"{tree.TOP}/{PROGRAM}", "--program", program]
+    words = [
+        f"{tree.TOP}/tools/group/draw", f"{tree.TOP}/{script}", "--file", f"{tree.TOP}/{PROGRAM}",
+        "--program", program,
+    ]
     done = subprocess.run(words, capture_output=True)
     if done.returncode:
         fault(f"{script}: is not drawn: {done.stderr.decode().strip()}")

@@ -1,4 +1,5 @@
-"""docs/PROMISES.md: rows that a person writes, and rows of calls and laws, written here from the comments in the sources."""
+"""docs/PROMISES.md: rows that a person writes, and rows of calls and laws, written here from the
+comments in the sources."""
 import re
 
 from . import tree, turns
@@ -18,7 +19,8 @@ class Row:
         self.tests, self.edits = [], []
 
     def text(self):
-        names = [", ".join(f"`{it}`" for it in sorted(set(names))) for names in (self.tests, self.edits)]
+        both = (self.tests, self.edits)
+        names = [", ".join(f"`{it}`" for it in sorted(set(names))) for names in both]
         return f"| {self.cells[0]} | {self.cells[1]} | {' | '.join(names)} |"
 
 
@@ -42,16 +44,20 @@ def rows_of(functions):
         if not cells:
             is_promises = False
             if line.startswith("- ") and is_spared:
-                spared |= turns.keys_of(functions, crate, calls_in(line[2:].split(": ")[0]), f"{PATH}:{number + 1}")
+                calls = calls_in(line[2:].split(": ")[0])
+                spared |= turns.keys_of(functions, crate, calls, f"{PATH}:{number + 1}")
             continue
         if is_promises and set(cells[0]) != {"-"}:
-            keys = turns.keys_of(functions, crate, calls_in(cells[1]), f"{PATH}:{number + 1}") if cells[1] else set()
+            calls = calls_in(cells[1])
+            where = f"{PATH}:{number + 1}"
+            keys = turns.keys_of(functions, crate, calls, where) if cells[1] else set()
             rows.append(Row(number, cells, crate, keys))
     return rows, spared
 
 
 def place(named, rows, column):
-    """Puts an edit or a test into the rows of what it names; the first rows that name the most of it."""
+    """Puts an edit or a test into the rows of what it names; the first rows that name the most of
+    it."""
     most = max((len(row.keys & named.keys) for row in rows), default=0)
     if most == 0:
         if named.keys:
@@ -66,7 +72,8 @@ def place(named, rows, column):
 
 
 def check_turned(functions, named, spared):
-    """Refuses a clause of a public call that no edit, test or law names, and that is not listed as not turned."""
+    """Refuses a clause of a public call that no edit, test or law names, and that is not listed as
+    not turned."""
     covered = set().union(spared, *(it.keys for it in named))
     missing = {}
     for it in functions:
@@ -75,7 +82,8 @@ def check_turned(functions, named, spared):
                 missing.setdefault(it.crate, {}).setdefault(it.title(), []).append(clause)
     for crate, calls in missing.items():
         for call, clauses in calls.items():
-            fault(f"crates/{crate}: no edit or test names {call} ({', '.join(clauses)}), and {PATH} does not list it as not turned")
+            unnamed = f"no edit or test names {call} ({', '.join(clauses)})"
+            fault(f"crates/{crate}: {unnamed}, and {PATH} does not list it as not turned")
 
 
 def cells_for(function, what, title):
@@ -84,7 +92,8 @@ def cells_for(function, what, title):
     if not re.match(r"[A-Z`].*\.\)?$", comment):
         fault(f"{function.path}: the comment of the {what} {function.name} is no sentence")
     if len(title) + len(comment) > MOST:
-        fault(f"{function.path}: the first paragraph of the comment of {function.name} has more than {MOST} characters, with its title")
+        first = f"the first paragraph of the comment of {function.name}"
+        fault(f"{function.path}: {first} has more than {MOST} characters, with its title")
     return [title, comment]
 
 
@@ -94,7 +103,8 @@ class Call(Row):
     def __init__(self, function, clauses):
         names = ", ".join(f"`{it}`" for it in clauses if it)
         title = f"`{function.title()}`" + (f" ({names})" if names else "")
-        super().__init__(None, cells_for(function, "call", title), function.crate, {(function, it) for it in clauses})
+        keys = {(function, it) for it in clauses}
+        super().__init__(None, cells_for(function, "call", title), function.crate, keys)
 
 
 class Law(Row):
@@ -103,7 +113,8 @@ class Law(Row):
     def __init__(self, function):
         module = "laws" if "laws" in function.modules else min(function.modules)
         keys = {(function, clause) for clause in function.promises()}
-        super().__init__(None, cells_for(function, "law", f"`{module}::{function.name}`"), function.crate, keys)
+        cells = cells_for(function, "law", f"`{module}::{function.name}`")
+        super().__init__(None, cells, function.crate, keys)
 
     def text(self):
         names = ", ".join(f"`{it}`" for it in sorted(set(self.tests + self.edits)))
@@ -111,7 +122,8 @@ class Law(Row):
 
 
 def by_type(functions):
-    """The functions, those of one type together: first those of the file that defines it, in its order."""
+    """The functions, those of one type together: first those of the file that defines it, in its
+    order."""
     home = {}
     for it in functions:
         if it.owner and re.search(rf"\b(?:struct|enum|trait) {it.owner}\b", text_of(it.path)):
@@ -128,7 +140,8 @@ def by_type(functions):
 
 
 def calls_of(functions, rows):
-    """The public calls with clauses that no row names. An `impl` of a trait may leave the comment to the trait."""
+    """The public calls with clauses that no row names. An `impl` of a trait may leave the comment
+    to the trait."""
     named = set().union(*(row.keys for row in rows))
     found = []
     for it in by_type([it for it in functions if it.is_public and not it.is_law]):
@@ -183,4 +196,5 @@ def check(functions, is_write):
         with open(f"{tree.TOP}/{PATH}", "w", encoding="utf-8") as file:
             file.write(text)
     elif text != text_of(PATH):
-        fault(f"{PATH}: its columns of tests and edits, its calls or its laws are not what docs/check --write writes")
+        what = "its columns of tests and edits, its calls or its laws"
+        fault(f"{PATH}: {what} are not what docs/check --write writes")

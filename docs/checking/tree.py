@@ -1,4 +1,5 @@
-"""The repository as docs/check sees it: files, crates, and the public functions with their clauses."""
+"""The repository as docs/check sees it: files, crates, and the public functions with their
+clauses."""
 import os
 import re
 
@@ -78,7 +79,8 @@ class Function:
         return all(it in (self.owner, self.crate, *self.modules) for it in qualifiers)
 
     def title(self):
-        """The name by which docs call it: with its type, the crate that exports it at its top, or its module."""
+        """The name by which docs call it: with its type, the crate that exports it at its top, or
+        its module."""
         module = os.path.basename(self.path)[: -len(".rt")]
         return f"{self.owner or (self.crate if self.is_at_top else module)}::{self.name}"
 
@@ -103,7 +105,8 @@ def without_comments(text):
 
 
 def owners_in(text):
-    """The ranges of the `impl` blocks and traits of a text, each with the type's name and whether a trait has its functions."""
+    """The ranges of the `impl` blocks and traits of a text, each with the type's name and whether a
+    trait has its functions."""
     found = []
     for it in re.finditer(r"^(?:pub )?(impl|trait)\b([^{;]*)\{", text, re.M):
         head = re.sub(r"<[^<>]*>", "", re.sub(r"<[^<>]*(?:<[^<>]*>[^<>]*)*>", "", it[2]))
@@ -128,8 +131,12 @@ def functions_of(crate):
             modules = modules_of(path, owner or it[2])
             clauses = clauses_at(text, it.end()) + members
             # What returns nothing, and takes no reference, can only state a law.
-            is_law = re.match(r"\([^()&]*\)\s*(?:ghost|requires|ensures)\b", text[it.end() :]) is not None
-            found.append(Function(crate, modules, owner, it[2], it[1] == "pub ", is_pub, is_law, clauses, path, it.start()))
+            law = r"\([^()&]*\)\s*(?:ghost|requires|ensures)\b"
+            is_law = re.match(law, text[it.end() :]) is not None
+            found.append(Function(
+                crate, modules, owner, it[2], it[1] == "pub ", is_pub, is_law, clauses, path,
+                it.start(),
+            ))
     return found
 
 
@@ -140,7 +147,8 @@ def names_used(path):
 
 
 def modules_of(path, name):
-    """The modules under which a name of a source is reached: its own, and the one above, if that exports the name."""
+    """The modules under which a name of a source is reached: its own, and the one above, if that
+    exports the name."""
     folder, module = os.path.dirname(path), os.path.basename(path)[: -len(".rt")]
     above = os.path.basename(folder)
     if above != "src" and is_file(f"{folder}.rt") and name in names_used(f"{folder}.rt"):
@@ -159,7 +167,8 @@ def exported_by(crate):
 def is_exported(function, exported):
     name = function.name if not function.owner else None
     is_in_lib = not function.owner and function.path.endswith("/lib.rt")
-    return function.is_pub and (is_in_lib or bool(exported & {function.owner, name, *function.modules}))
+    names = {function.owner, name, *function.modules}
+    return function.is_pub and (is_in_lib or bool(exported & names))
 
 
 def all_functions():
@@ -169,6 +178,7 @@ def all_functions():
         exported = exported_by(crate)
         for it in functions_of(crate):
             it.is_public = is_exported(it, exported)
-            it.is_at_top = it.is_public and not it.owner and (it.name in exported or it.path.endswith("/lib.rt"))
+            is_here = it.name in exported or it.path.endswith("/lib.rt")
+            it.is_at_top = it.is_public and not it.owner and is_here
             found.append(it)
     return found

@@ -1,4 +1,5 @@
-"""What edits turn and tests show: the lines `Turns CALL (CLAUSE): ..` and `Shows CALL (CLAUSE): ..`."""
+"""What edits turn and tests show: their lines `Turns CALL (CLAUSE): ..` and
+`Shows CALL (CLAUSE): ..`."""
 import os
 import re
 
@@ -11,14 +12,16 @@ UNSAID = "Shows what no clause says: "
 
 
 class Named:
-    """An edit or a test, with the promises that it names: sets of a function and the name of a clause."""
+    """An edit or a test, with the promises that it names: sets of a function and the name of a
+    clause."""
 
     def __init__(self, name, path, keys):
         self.name, self.path, self.keys = name, path, keys
 
 
 def resolve(functions, crate, call):
-    """The functions that a call names: those of `crate` if there are some, and the public ones if there are some."""
+    """The functions that a call names: those of `crate` if there are some, and the public ones if
+    there are some."""
     *qualifiers, name = call.split("::")
     found = [it for it in functions if it.name == name and it.is_called(qualifiers)]
     found = [it for it in found if it.crate == crate] or found
@@ -35,7 +38,8 @@ def keys_of(functions, crate, text, place):
             continue
         wanted = re.findall(r"\w+", clauses)
         for it in found:
-            keys |= {(it, clause) for clause in wanted or it.promises() or [""] if not wanted or clause in it.promises()}
+            named = [clause for clause in wanted if clause in it.promises()]
+            keys |= {(it, clause) for clause in (named if wanted else it.promises() or [""])}
         for clause in wanted:
             if not any(clause in it.promises() for it in found):
                 fault(f"{place}: {call} has no clause {clause}")
@@ -43,8 +47,9 @@ def keys_of(functions, crate, text, place):
 
 
 def check_applies(crate, path):
-    """Refuses an edit of which an old text does not stand in its file exactly once. The prover would not try it, and its line
-    in .ci/must-fail.tried may stay, since that does not rest on comments."""
+    """Refuses an edit of which an old text does not stand in its file exactly once. The prover
+    would not try it, and its line in .ci/must-fail.tried may stay, since that does not rest on
+    comments."""
     texts, file, old = {}, None, None
     for kind, text in re.findall(r"^(file|old|new): ?(.*)$", text_of(path), re.M):
         if kind == "file":
@@ -53,7 +58,8 @@ def check_applies(crate, path):
         elif kind == "old":
             old = text
             if texts[file].count(old) != 1:
-                fault(f"{path}: an old text stands in {file} {texts[file].count(old)} times, and not once")
+                times = texts[file].count(old)
+                fault(f"{path}: an old text stands in {file} {times} times, and not once")
         else:
             texts[file] = texts[file].replace(old, text)
 
@@ -69,17 +75,25 @@ def edits_of(functions, crate):
             continue
         if " Here " not in it[3]:
             fault(f"{path}: its first line does not say what happens `Here`")
-        found.append(Named(os.path.basename(path)[: -len(".edit")], path, keys_of(functions, crate, it[2], path)))
+        name = os.path.basename(path)[: -len(".edit")]
+        found.append(Named(name, path, keys_of(functions, crate, it[2], path)))
     if old:
-        fault(f"crates/{crate}/must-fail: {len(old)} edits do not begin with `Turns CALL (CLAUSE): `, as {old[0]}")
+        text = f"{len(old)} edits do not begin with `Turns CALL (CLAUSE): `"
+        fault(f"crates/{crate}/must-fail: {text}, as {old[0]}")
     return found
+
+
+# The comment and the attributes above a test, and its name.
+TEST = re.compile(
+    r"((?:^[ \t]*///?[^\n]*\n)*^[ \t]*#\[test\]\n(?:^[ \t]*(?:#|///?)[^\n]*\n)*)"
+    r"[ \t]*(?:pub )?fn (\w+)", re.M,
+)
 
 
 def comments_of_tests(crate):
     """The comment above each test of a crate, as (name, path, text)."""
     for path in tree.files_below(f"crates/{crate}/src", ".rt"):
-        block = r"((?:^[ \t]*///?[^\n]*\n)*^[ \t]*#\[test\]\n(?:^[ \t]*(?:#|///?)[^\n]*\n)*)[ \t]*(?:pub )?fn (\w+)"
-        for comment, name in re.findall(block, text_of(path), re.M):
+        for comment, name in TEST.findall(text_of(path)):
             lines = [re.sub(r"^[ \t]*///? ?", "", it) for it in comment.split("\n") if "//" in it]
             yield name, path, " ".join(it for it in lines if it).strip()
 
@@ -103,5 +117,6 @@ def tests_of(functions):
             continue
         found.append(Named(name, path, keys_of(functions, None, it[2], f"{path} ({name})")))
     for crate, places in sorted(old.items()):
-        fault(f"{crate}: {len(places)} tests do not begin with `Shows CALL (CLAUSE): `, as {places[0]}")
+        text = f"{len(places)} tests do not begin with `Shows CALL (CLAUSE): `"
+        fault(f"{crate}: {text}, as {places[0]}")
     return found

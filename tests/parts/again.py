@@ -1,8 +1,9 @@
-"""Runs the built program many times, each run in a process of its own: for tests/memory and tests/damage. tests/limits, tests/disk and
-tests/power share its helpers.
+"""Runs the built program many times, each run in a process of its own: for tests/memory and
+tests/damage. tests/limits, tests/disk and tests/power share its helpers.
 
-If there is a C compiler, tests/parts/again.c loads the program once and forks for each run. This takes half the time, and can refuse
-requests for memory. Otherwise each run starts the program anew."""
+If there is a C compiler, tests/parts/again.c loads the program once and forks for each run. This
+takes half the time, and can refuse requests for memory. Otherwise each run starts the program
+anew."""
 
 import collections
 import os
@@ -43,7 +44,9 @@ def compiled(room, name="again"):
         return None
     library = os.path.join(room, os.path.basename(name) + ".so")
     source = os.path.join(TESTS, "parts", name + ".c")
-    subprocess.run([compiler, "-shared", "-fPIC", "-O1", "-Wall", "-o", library, source], check=True)
+    subprocess.run(
+        [compiler, "-shared", "-fPIC", "-O1", "-Wall", "-o", library, source], check=True
+    )
     return library
 
 
@@ -88,7 +91,9 @@ class Plain:
         assert first == last == 0
         self.files.set_input(stdin)
         os.lseek(self.files.handles[0], 0, os.SEEK_SET)
-        child = os.posix_spawn(PROGRAM, [PROGRAM, *words], os.environ, file_actions=self.files.actions())
+        child = os.posix_spawn(
+            PROGRAM, [PROGRAM, *words], os.environ, file_actions=self.files.actions()
+        )
         return Ran(status_of(os.waitpid(child, 0)[1]), *self.files.take(), False)
 
     def end(self):
@@ -107,7 +112,8 @@ class Again:
         self.servers = {}
 
     def server(self, count):
-        """Returns the process for runs with `count` words, its streams, and the pipes to it and from it."""
+        """Returns the process for runs with `count` words, its streams, and the pipes to it and
+        from it."""
         if count not in self.servers:
             files = Files(self.room)
             runs, to = os.pipe()
@@ -123,7 +129,8 @@ class Again:
         return self.servers[count]
 
     def run(self, words, stdin=b"", first=0, last=0):
-        """Runs the program. Its requests for memory from `first` to `last`, counted from 1 on, are refused."""
+        """Runs the program. Its requests for memory from `first` to `last`, counted from 1 on, are
+        refused."""
         _, files, to, back = self.server(len(words))
         files.set_input(stdin)
         os.write(to, b"\0".join([b"%d %d" % (first, last), *map(os.fsencode, words), b""]))

@@ -48,7 +48,8 @@ def segment_of(data):
 
 
 def table_of(code, end, number):
-    """JTAB of a procedure: the checks of its pointer and of its attribute table. `end` is where the dictionary begins."""
+    """JTAB of a procedure: the checks of its pointer and of its attribute table. `end` is where the
+    dictionary begins."""
     at = len(code) - 2 - 2 * number
     jtab = at - word(code, at)
     must(jtab % 2 == 0 and 8 <= jtab <= end - 2, f"F7 procedure {number}")

@@ -1,5 +1,5 @@
-"""A script at a terminal that the test makes: what is typed at it, what it was given to show, and its
-settings before and after. tests/console and tests/group_scripts share it."""
+"""A script at a terminal that the test makes: what is typed at it, what it was given to show, and
+its settings before and after. tests/console and tests/group_scripts share it."""
 
 import fcntl
 import os
@@ -36,7 +36,8 @@ class Terminal:
         return True
 
     def await_that(self, is_so, fault):
-        """Looks until `is_so` returns true, a minute at most. `fault` returns what is wrong then."""
+        """Looks until `is_so` returns true, a minute at most. `fault` returns what is wrong
+        then."""
         end = time.monotonic() + 60
         while not is_so():
             if time.monotonic() > end:
@@ -45,7 +46,9 @@ class Terminal:
 
     def await_shown(self, text):
         """Waits until this was shown, among other things."""
-        self.await_that(lambda: text in self.shown, lambda: f"shown was {self.shown}, without {text}")
+        self.await_that(
+            lambda: text in self.shown, lambda: f"shown was {self.shown}, without {text}"
+        )
 
     def await_exactly(self, text):
         """Waits until this was shown, and nothing else."""
@@ -65,8 +68,8 @@ class Terminal:
         os.write(self.keyboard, keys)
 
     def end(self, status):
-        """Waits until the script has ended, and reads all that it has shown. It has to end with this
-        status, which is below 0 for a signal, and to leave the terminal as it was."""
+        """Waits until the script has ended, and reads all that it has shown. It has to end with
+        this status, which is below 0 for a signal, and to leave the terminal as it was."""
         self.await_that(lambda: self.process.poll() is not None, lambda: "it has not ended")
         while self.look():
             pass

@@ -186,7 +186,8 @@ VAR H, P: L; M: ^INTEGER; I: INTEGER;""", "H := NIL; FOR I := 1 TO 3 DO BEGIN NE
     # Units
     ("UNITREAD and UNITWRITE", "VAR A: PACKED ARRAY[0..3] OF CHAR; N: INTEGER;",
      "UNITREAD(1, A, 2); UNITREAD(2, A[2], 2, , 0); UNITWRITE(1, A[1], 3); "
-     "{$I-} UNITWRITE(6, A, 1); N := IORESULT; {$I+} WRITE(N); UNITWRITE(6, A, 1)", "abcd", "abbcd2", ERROR + " 10"),
+     "{$I-} UNITWRITE(6, A, 1); N := IORESULT; {$I+} WRITE(N); UNITWRITE(6, A, 1)",
+     "abcd", "abbcd2", ERROR + " 10"),
     # Procedures
     ("variables of procedures around", """
 PROCEDURE A(P: INTEGER); VAR V: INTEGER;

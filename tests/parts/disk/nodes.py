@@ -1,6 +1,8 @@
-"""The nodes of tests/disk: cases of what a node is asked to do and has to save, and runs of them. The script is the other nodes."""
+"""The nodes of tests/disk: cases of what a node is asked to do and has to save, and runs of them.
+The script is the other nodes."""
 
 import collections
+import contextlib
 import os
 import select
 import socket
@@ -43,14 +45,16 @@ def answer_of(record, node, message):
     """Returns the record after a Prepare or an Accept under a new ballot, and the answer."""
     fields, ballot = message.fields, Ballot(*message.fields["ballot"])
     if message.kind == "accept":
-        return with_vote(record, fields["place"], ballot, fields["value"]), Message("accepted", node, fields)
+        voted = with_vote(record, fields["place"], ballot, fields["value"])
+        return voted, Message("accepted", node, fields)
     votes = [(place, *vote) for place, vote in record.votes.items()]
     answer = {"ballot": ballot, "first": fields["place"], "upto": readers.PLACES, "votes": votes}
     return changed(record, promised=ballot), Message("promise", node, answer)
 
 
 class Case:
-    """A node, the bytes of its record before, and the record after each of its saves. It is played to its end, or until it has ended."""
+    """A node, the bytes of its record before, and the record after each of its saves. It is played
+    to its end, or until it has ended."""
 
     # How a run ends that is not disturbed.
     status, shown = 0, b""
@@ -66,11 +70,13 @@ class Case:
         return [], 0, b""
 
     def play(self, playing):
-        """Does what the node waits for. One that is alone waits for nothing, and ends after its turns."""
+        """Does what the node waits for. One that is alone waits for nothing, and ends after its
+        turns."""
 
 
 class Alone(Case):
-    """A node that is alone campaigns and votes for what is typed: for 32 keys at most at each place."""
+    """A node that is alone campaigns and votes for what is typed: for 32 keys at most at each
+    place."""
 
     def __init__(self, name, before, keys):
         super().__init__(name, 1, 1, before)
@@ -128,7 +134,8 @@ class Leads(Case):
     def __init__(self, name):
         super().__init__(name, 1, 3, None)
         self.history.append(changed(self.history[-1], promised=Ballot(1, 1)))
-        self.batches = [Batch(1, 1, 1 + place, bytes([key])) for place, key in enumerate(self.shown)]
+        keys = enumerate(self.shown)
+        self.batches = [Batch(1, 1, 1 + place, bytes([key])) for place, key in keys]
         for place, batch in enumerate(self.batches):
             self.history.append(with_vote(self.history[-1], place, Ballot(1, 1), batch))
 
@@ -167,14 +174,16 @@ def status_of(process):
 
 
 class Bench:
-    """A place for one run at a time: a folder with the record, the files of the standard streams, addresses, and the sockets of two other
-    nodes. These stay open, as a process that is just started elsewhere may have them a moment longer than this one."""
+    """A place for one run at a time: a folder with the record, the files of the standard streams,
+    addresses, and the sockets of two other nodes. These stay open, as a process that is just
+    started elsewhere may have them a moment longer than this one."""
 
     def __init__(self, room, library, number, addresses):
         self.home = os.path.join(os.path.realpath(room), f"bench{number}")
         self.folder = os.path.join(self.home, "folder")
         os.makedirs(self.folder)
-        self.record = self.word = os.path.join(self.folder, "record")  # where it is, and the word that names it
+        # Where the record is, and the word that names it.
+        self.record = self.word = os.path.join(self.folder, "record")
         self.library, self.file = library, os.path.join(room, "endless.code")
         self.own, self.keys, *others = addresses
         self.sockets = [socket.socket(socket.AF_INET, socket.SOCK_DGRAM) for _ in others]
@@ -186,7 +195,8 @@ class Bench:
         return os.path.join(self.home, name)
 
     def others(self, case):
-        """Returns the sockets of the other nodes of a case by their numbers, with nothing in them."""
+        """Returns the sockets of the other nodes of a case by their numbers, with nothing in
+        them."""
         for it in self.sockets:
             while select.select([it], [], [], 0)[0]:
                 it.recv(2000)
@@ -207,13 +217,20 @@ class Bench:
             more = [*more, text_of(self.keys)]
         addresses = [it.getsockname() for it in self.sockets[: case.size - 1]]
         addresses.insert(case.node - 1, self.own)
-        words = command_of(PROGRAM, self.file, case.node, SESSION, self.word, addresses, *more, turns=turns)
-        about = {"LD_PRELOAD": self.library, "DISK_FOLDER": self.folder, "DISK_TRACE": self.at("trace"), "DISK_PLAN": plan}
+        words = command_of(
+            PROGRAM, self.file, case.node, SESSION, self.word, addresses, *more, turns=turns
+        )
+        about = {
+            "LD_PRELOAD": self.library, "DISK_FOLDER": self.folder, "DISK_TRACE": self.at("trace"),
+            "DISK_PLAN": plan,
+        }
         for name, data in (("stdin", keys), ("stdout", b""), ("stderr", b""), ("trace", b"")):
             with open(self.at(name), "wb") as file:
                 file.write(data)
-        with open(self.at("stdin"), "rb") as stdin, open(self.at("stdout"), "ab") as stdout, open(self.at("stderr"), "ab") as stderr:
-            return subprocess.Popen(words, stdin=stdin, stdout=stdout, stderr=stderr, env={**os.environ, **about}, cwd=self.folder)
+        kinds = {"stdin": "rb", "stdout": "ab", "stderr": "ab"}
+        with contextlib.ExitStack() as stack:
+            ends = {it: stack.enter_context(open(self.at(it), kinds[it])) for it in kinds}
+            return subprocess.Popen(words, **ends, env={**os.environ, **about}, cwd=self.folder)
 
     def name(self):
         """Returns the path of the record, from the folder on."""
@@ -225,7 +242,8 @@ class Bench:
 
     def ran(self, status):
         calls = traces.calls_in(self.at("trace"))
-        return Ran(status, bytes_of(self.at("stdout")), bytes_of(self.at("stderr")), calls, self.data())
+        said = [bytes_of(self.at(it)) for it in ("stdout", "stderr")]
+        return Ran(status, *said, calls, self.data())
 
     def run(self, case, plan=""):
         """Plays a case from its beginning."""
@@ -239,11 +257,13 @@ class Bench:
             playing.process.wait()
 
     def start_again(self, case):
-        """Starts the node of a case over the record that is there, for no turn. Returns the record that it has then."""
+        """Starts the node of a case over the record that is there, for no turn. Returns the record
+        that it has then."""
         before = self.data()
         ran = self.ran(status_of(self.start(case, "", [], 0, b"")))
         if (ran.status, ran.stderr) != (0, b""):
-            raise Broken(f"the next start: status {ran.status}, {ran.stderr}; the record had {before and before.hex()}")
+            had = f"the record had {before and before.hex()}"
+            raise Broken(f"the next start: status {ran.status}, {ran.stderr}; {had}")
         looked_at(self, case, ran, before)
         return record_of(ran.data)
 
@@ -265,20 +285,23 @@ class Playing:
         next(iter(self.sockets.values())).sendto(data, self.bench.keys)
 
     def hear(self, number, is_wanted):
-        """Waits until such a message has come to node `number`. Returns false if the node has ended before."""
+        """Waits until such a message has come to node `number`. Returns false if the node has ended
+        before."""
         self.heard = number
         end = time.monotonic() + LONGEST
         while time.monotonic() < end:
             has_ended = self.process.poll() is not None
             while select.select([self.sockets[number]], [], [], 0 if has_ended else 0.005)[0]:
-                if is_wanted(readers.datagram(self.sockets[number].recv(2000), self.case.size, SESSION)):
+                data = self.sockets[number].recv(2000)
+                if is_wanted(readers.datagram(data, self.case.size, SESSION)):
                     return True
             if has_ended:
                 return False
         raise Broken(f"{self.case.name}: a message to node {number} did not come")
 
     def tell(self, message, answer):
-        """Sends a message, and waits for its answer. Returns false if the node has ended before it has answered."""
+        """Sends a message, and waits for its answer. Returns false if the node has ended before it
+        has answered."""
         self.send(message)
         return self.hear(message.sender, lambda it: it == answer)
 
@@ -292,7 +315,8 @@ class Playing:
         return os.path.getsize(self.bench.at("stdout")) >= count
 
     def stop(self):
-        """Ends the node once it has sent one more message. Then the one that was waited for last is in the trace."""
+        """Ends the node once it has sent one more message. Then the one that was waited for last is
+        in the trace."""
         self.hear(self.heard, lambda it: True)
         self.process.kill()
 
@@ -301,5 +325,6 @@ def looked_at(bench, case, ran, before, is_thorough=False):
     """Returns the model after the calls of a run. It has to have the bytes that the file has."""
     disk = replay(ran.calls, bench.name(), before, (case.size, SESSION), is_thorough=is_thorough)
     if disk.data() != ran.data:
-        raise Broken(f"{case.name}: not all calls were seen: the file has {ran.data}, and not {disk.data()}")
+        there = f"the file has {ran.data}, and not {disk.data()}"
+        raise Broken(f"{case.name}: not all calls were seen: {there}")
     return disk

@@ -1,8 +1,9 @@
-"""Reads the calls that tests/parts/disk/calls.c has written down, and refuses them where a record is not kept as docs/FORMATS.md says.
+"""Reads the calls that tests/parts/disk/calls.c has written down, and refuses them where a record
+is not kept as docs/FORMATS.md says.
 
-A model of the disk makes the calls again. It knows what was synced, so it also knows what a cut of the power may leave after each call: the
-file that had the name when the folder was synced last, or one that got the name since, and of each what was synced and the first bytes of
-what was not."""
+A model of the disk makes the calls again. It knows what was synced, so it also knows what a cut of
+the power may leave after each call: the file that had the name when the folder was synced last, or
+one that got the name since, and of each what was synced and the first bytes of what was not."""
 
 import collections
 import errno
@@ -14,7 +15,8 @@ from shared.record import Damaged, record_of
 from .. import readers
 from ..program import Broken
 
-# A line of the trace. `number` is None for what is sent or shown, `done` is None where the call was not made.
+# A line of the trace. `number` is None for what is sent or shown, `done` is None where the call was
+# not made.
 Call = collections.namedtuple("Call", "number name words told done")
 
 CHANGES = os.O_WRONLY | os.O_RDWR | os.O_CREAT | os.O_TRUNC
@@ -26,7 +28,8 @@ def call_of(line):
     front, back = line.split(" = ")
     number, name, *words = front.split(" ")
     told, done = back.split(" ")
-    return Call(None if number == "-" else int(number), name, words, int(told), None if done == "-" else int(done))
+    number, done = (None if it == "-" else int(it) for it in (number, done))
+    return Call(number, name, words, int(told), done)
 
 
 def calls_in(path):
@@ -49,7 +52,8 @@ def must(holds, text):
 
 
 class File:
-    """A file: its bytes, those that were synced, and the descriptors that have written to it since."""
+    """A file: its bytes, those that were synced, and the descriptors that have written to it
+    since."""
 
     def __init__(self, data):
         self.data = bytearray(data)
@@ -82,7 +86,8 @@ class Needs:
         self.shown = b""
 
     def show(self, data):
-        """A node that is alone shows keys once it has voted for them. Others learn what a majority has voted for."""
+        """A node that is alone shows keys once it has voted for them. Others learn what a majority
+        has voted for."""
         self.is_out = True
         if self.size == 1:
             self.shown += data
@@ -128,8 +133,9 @@ class Disk:
     """The folder of a record as the calls so far have left it, and the saves so far."""
 
     def __init__(self, path, before, group, is_thorough=False):
-        """`path` leads from the folder of the trace to the record. `before` has the bytes of the record, or None; `group` the size and the
-        session. A thorough look is at all that a cut of the power may leave, and another one at the least and the most."""
+        """`path` leads from the folder of the trace to the record. `before` has the bytes of the
+        record, or None; `group` the size and the session. A thorough look is at all that a cut of
+        the power may leave, and another one at the least and the most."""
         self.path, self.fresh, self.folder = path, path + ".new", os.path.dirname(path) or "."
         self.names = {} if before is None else {path: File(before)}
         self.handles = {}
@@ -155,12 +161,14 @@ class Disk:
             raise Broken(f"the record is damaged: {fault}: at {line_of(call)}")
         except Broken as fault:
             raise Broken(f"{fault}: at {line_of(call)}")
-        is_missing = call.name == "open" and call.words[0] == self.path and call.told == -errno.ENOENT
+        is_of_it = call.name == "open" and call.words[0] == self.path
+        is_missing = is_of_it and call.told == -errno.ENOENT
         if call.name in NEEDED and call.told < 0 and call.told != -errno.EINTR and not is_missing:
             self.failed = self.failed or call
 
     def must_go_on(self):
-        must(not self.failed, f"nothing may follow the call that failed, {self.failed and line_of(self.failed)}")
+        which = self.failed and line_of(self.failed)
+        must(not self.failed, f"nothing may follow the call that failed, {which}")
 
     def data(self):
         file = self.names.get(self.path)
@@ -175,7 +183,8 @@ class Disk:
             if file is None:
                 yield None
             else:
-                yield from file.left() if self.is_thorough else dict.fromkeys([file.synced, bytes(file.data)])
+                ends = dict.fromkeys([file.synced, bytes(file.data)])
+                yield from file.left() if self.is_thorough else ends
 
     def check_left(self):
         for data in self.left():
@@ -188,7 +197,8 @@ class Disk:
         is_change = bool(flags & CHANGES)
         if is_change:
             self.must_go_on()
-            must(self.saves or not self.loading, f"the load has not synced {' and '.join(sorted(self.loading))}")
+            which = " and ".join(sorted(self.loading))
+            must(self.saves or not self.loading, f"the load has not synced {which}")
             must(path == self.fresh, "the record is opened for more than to be read")
         if path == self.fresh:
             must(flags & os.O_CREAT and flags & os.O_TRUNC, "the second file is not begun anew")
@@ -197,7 +207,8 @@ class Disk:
         if path == self.fresh:
             self.names[path] = File(b"")
         if call.told >= 0:
-            self.handles[call.told] = Handle(self.names.get(path), is_change, bool(flags & os.O_APPEND))
+            is_append = bool(flags & os.O_APPEND)
+            self.handles[call.told] = Handle(self.names.get(path), is_change, is_append)
 
     def do_read(self, call):
         self.handles[int(call.words[0])].is_used = True
@@ -244,7 +255,8 @@ class Disk:
         self.note_save()
 
     def sync(self, handle):
-        """A sync by a descriptor answers for what was written by it, and for what was read by it when the record was loaded."""
+        """A sync by a descriptor answers for what was written by it, and for what was read by it
+        when the record was loaded."""
         must(handle.is_used, "a file was opened again to be synced")
         if handle.file is self.names.get(self.path):
             self.loading.discard("the file")
@@ -257,21 +269,24 @@ class Disk:
         old, new = map(os.path.normpath, call.words)
         must((old, new) == (self.fresh, self.path), "another name is given")
         file = self.names[old]
-        must(not file.writers and file.is_whole and file.data, "the second file gets the name before it is synced")
+        is_synced = not file.writers and file.is_whole and file.data
+        must(is_synced, "the second file gets the name before it is synced")
         if call.done == 0:
             self.names[new] = self.names.pop(old)
             self.possible.append(file)
             self.is_named, self.is_put = False, True
 
     def note_save(self):
-        """Notes a save, once all of it is synced. The first save after a start writes the file anew. So does one before which no ballot was
-        promised, and each one of a whole record; the others append."""
+        """Notes a save, once all of it is synced. The first save after a start writes the file
+        anew. So does one before which no ballot was promised, and each one of a whole record; the
+        others append."""
         data = self.data()
         if data == self.last or not self.is_settled():
             return
         is_whole = self.last is not None and self.last.startswith(b"PR")
         is_anew = not self.saves or self.record.promised is None or is_whole
-        must(is_anew == self.is_put, f"a save that has to {'write the file anew' if is_anew else 'append'}")
+        does = "write the file anew" if is_anew else "append"
+        must(is_anew == self.is_put, f"a save that has to {does}")
         self.last, self.record, self.is_put = data, record_in(data), False
         self.saves.append(self.record)
 

@@ -1,10 +1,13 @@
-"""A disk that writes down what is written on it, and what a power cut may leave of it: for tests/power.
+"""A disk that writes down what is written on it, and what a power cut may leave of it: for
+tests/power.
 
-The disk is a file system with the one file `disk`, which this module serves over /dev/fuse as a process of its own. A loop device over the
-file carries a file system of the kernel. Each write and each flush of that device comes here in turn, and is noted with its time.
+The disk is a file system with the one file `disk`, which this module serves over /dev/fuse as a
+process of its own. A loop device over the file carries a file system of the kernel. Each write and
+each flush of that device comes here in turn, and is noted with its time.
 
-What was written before a flush stays when the power fails. Of what was written after the last flush a drive may keep any part in any order,
-but writes each sector of 512 bytes as a whole or not at all."""
+What was written before a flush stays when the power fails. Of what was written after the last flush
+a drive may keep any part in any order, but writes each sector of 512 bytes as a whole or not at
+all."""
 
 import bisect
 import collections
@@ -31,11 +34,13 @@ FLUSH = 0xFFFFFFFF
 
 # The numbers of the kernel's FUSE protocol, from linux/fuse.h.
 LOOKUP, FORGET, GETATTR, SETATTR, OPEN, READ, WRITE, STATFS = 1, 2, 3, 4, 14, 15, 16, 17
-RELEASE, FSYNC, FLUSH_FILE, INIT, OPENDIR, RELEASEDIR, INTERRUPT, DESTROY, BATCH_FORGET = 18, 20, 25, 26, 27, 29, 36, 38, 42
+RELEASE, FSYNC, FLUSH_FILE, INIT, OPENDIR, RELEASEDIR = 18, 20, 25, 26, 27, 29
+INTERRUPT, DESTROY, BATCH_FORGET = 36, 38, 42
 VERSION = (7, 31)
 BIG_WRITES, MAX_PAGES = 1 << 5, 1 << 22
 MOST = 131072  # bytes of one read or write
-REQUEST = struct.Struct("<IIQQ")  # length, operation, number of the request, file; then 16 bytes that nobody needs here
+# Length, operation, number of the request, file; then 16 bytes that nobody needs here.
+REQUEST = struct.Struct("<IIQQ")
 HEADER = 40
 PLACE = struct.Struct("<QQI")  # handle, offset, size
 TOP, DISK = 1, 2  # the files: the folder, and `disk` in it
@@ -55,20 +60,28 @@ class Server:
         self.notes = open(notes, "wb", buffering=1 << 20)
         self.fuse = os.open("/dev/fuse", os.O_RDWR)
         options = f"fd={self.fuse},rootmode=40000,user_id=0,group_id=0,max_read={MOST}"
-        must(mount(b"power", os.fsencode(folder), b"fuse", 0, options.encode()), f"nothing can be mounted on {folder}")
+        is_mounted_here = mount(b"power", os.fsencode(folder), b"fuse", 0, options.encode())
+        must(is_mounted_here, f"nothing can be mounted on {folder}")
         self.answers = {
-            INIT: self.begin, LOOKUP: self.find, GETATTR: self.attributes, SETATTR: self.attributes, OPEN: self.open, OPENDIR: self.open,
-            READ: self.read, WRITE: self.write, FSYNC: self.flush, STATFS: self.room,
+            INIT: self.begin, LOOKUP: self.find, GETATTR: self.attributes, SETATTR: self.attributes,
+            OPEN: self.open, OPENDIR: self.open, READ: self.read, WRITE: self.write,
+            FSYNC: self.flush, STATFS: self.room,
             **{it: lambda file, body: b"" for it in (FLUSH_FILE, RELEASE, RELEASEDIR, DESTROY)},
         }
 
     def begin(self, file, body):
-        return struct.pack("<4I2H2I2HI28x", *VERSION, MOST, BIG_WRITES | MAX_PAGES, 64, 48, MOST, 1, MOST // BLOCK, 0, 0)
+        return struct.pack(
+            "<4I2H2I2HI28x", *VERSION, MOST, BIG_WRITES | MAX_PAGES, 64, 48, MOST, 1, MOST // BLOCK,
+            0, 0,
+        )
 
     def described(self, file):
-        """What fuse_attr has: number, size, blocks, three times, their parts of a second, mode, links, owner, device and block size."""
+        """What fuse_attr has: number, size, blocks, three times, their parts of a second, mode,
+        links, owner, device and block size."""
         size, mode = (0, 0o40755) if file == TOP else (self.size, 0o100600)
-        return struct.pack("<6Q10I", file, size, size // SECTOR, 0, 0, 0, 0, 0, 0, mode, 1, 0, 0, 0, BLOCK, 0)
+        return struct.pack(
+            "<6Q10I", file, size, size // SECTOR, 0, 0, 0, 0, 0, 0, mode, 1, 0, 0, 0, BLOCK, 0
+        )
 
     def find(self, file, body):
         if body.rstrip(b"\0") != b"disk":
@@ -103,9 +116,11 @@ class Server:
         length, operation, number, file = REQUEST.unpack_from(request)
         if operation in (FORGET, BATCH_FORGET, INTERRUPT):
             return
-        done = self.answers.get(operation, lambda file, body: -errno.ENOSYS)(file, request[HEADER:length])
+        answer = self.answers.get(operation, lambda file, body: -errno.ENOSYS)
+        done = answer(file, request[HEADER:length])
         status, data = (done, b"") if isinstance(done, int) else (0, done)
-        with contextlib.suppress(FileNotFoundError):  # It was interrupted, and nobody waits for the answer.
+        # It may be interrupted, and then nobody waits for the answer.
+        with contextlib.suppress(FileNotFoundError):
             os.write(self.fuse, struct.pack("<IiQ", 16 + len(data), status, number) + data)
 
     def serve(self):
@@ -125,7 +140,9 @@ class Server:
 
 def run(*words):
     """Runs a command of the system. Raises Broken with what it said if it fails."""
-    done = subprocess.run(words, check=False, stdin=subprocess.DEVNULL, capture_output=True, text=True)
+    done = subprocess.run(
+        words, check=False, stdin=subprocess.DEVNULL, capture_output=True, text=True
+    )
     if done.returncode != 0:
         raise Broken(f"{' '.join(words)}: {done.stderr.strip() or done.stdout.strip()}")
 
@@ -137,7 +154,8 @@ def is_mounted(folder):
 
 
 def unmount(folder):
-    """Unmounts what is mounted on this folder, if anything is. The last user of it may need a moment to end."""
+    """Unmounts what is mounted on this folder, if anything is. The last user of it may need a
+    moment to end."""
     for _ in range(100):
         if not is_mounted(folder):
             return
@@ -149,7 +167,8 @@ def unmount(folder):
 
 @contextlib.contextmanager
 def mounted(kind, options, path, folder):
-    """Has the file system in this file mounted on the folder. The loop device between them goes away with the mount."""
+    """Has the file system in this file mounted on the folder. The loop device between them goes
+    away with the mount."""
     try:
         run("mount", "-t", kind, "-o", f"loop,{options}", path, folder)
         yield
@@ -159,13 +178,15 @@ def mounted(kind, options, path, folder):
 
 @contextlib.contextmanager
 def served_disk(room, size):
-    """Has a disk of this many bytes served, in a folder of `room`. Gives the path of its file. When it has ended, all is in the notes."""
+    """Has a disk of this many bytes served, in a folder of `room`. Gives the path of its file. When
+    it has ended, all is in the notes."""
     folder = os.path.join(room, "served")
     os.makedirs(folder, exist_ok=True)
     words = [sys.executable, "-B", "-m", "parts.power.disk", folder, str(size), notes_in(room)]
     # Ctrl-C must not reach the process while a file system is mounted on what it serves.
     server = subprocess.Popen(
-        words, cwd=TESTS, stdin=subprocess.DEVNULL, stdout=subprocess.PIPE, text=True, start_new_session=True
+        words, cwd=TESTS, stdin=subprocess.DEVNULL, stdout=subprocess.PIPE, text=True,
+        start_new_session=True,
     )
     said = None
     try:
@@ -207,9 +228,11 @@ def writes_in(room):
 
 
 def runs_of(writes):
-    """Returns the parts of a disk that these writes touch, each as an offset and the one behind its last byte."""
+    """Returns the parts of a disk that these writes touch, each as an offset and the one behind its
+    last byte."""
     runs = []
-    for first, last in sorted((it.offset, it.offset + len(it.data)) for it in writes if it.data is not None):
+    ends = [(it.offset, it.offset + len(it.data)) for it in writes if it.data is not None]
+    for first, last in sorted(ends):
         if runs and first <= runs[-1][1]:
             runs[-1] = runs[-1][0], max(last, runs[-1][1])
         else:
@@ -230,8 +253,9 @@ class Images:
         self.until = 0
 
     def pieces(self, cut, draw):
-        """Draws a way, and what is on the disk if the power fails before the write with the index `cut`. Returns the way, and offsets with
-        bytes, in order: these stay besides all that was flushed by then."""
+        """Draws a way, and what is on the disk if the power fails before the write with the index
+        `cut`. Returns the way, and offsets with bytes, in order: these stay besides all that was
+        flushed by then."""
         before = bisect.bisect_left(self.flushes, cut)
         flush = self.flushes[before - 1] if before else 0
         for it in self.writes[self.until : flush]:
@@ -256,7 +280,8 @@ class Images:
                 yield write.offset + at, write.data[at : at + SECTOR]
 
     def put(self, path, pieces):
-        """Makes the file an image of the disk with these pieces. It is a new one: a loop device may still let go of the last."""
+        """Makes the file an image of the disk with these pieces. It is a new one: a loop device may
+        still let go of the last."""
         with contextlib.suppress(FileNotFoundError):
             os.unlink(path)
         with open(path, "wb") as file:
@@ -271,7 +296,8 @@ class Images:
 def main():
     folder, size, notes = sys.argv[1:]
     signal.signal(signal.SIGINT, signal.SIG_IGN)
-    # It ends with the test, and memory that it asks for is never had by writing to the file system that stands on it.
+    # It ends with the test, and memory that it asks for is never had by writing to the file system
+    # that stands on it.
     LIBRARY.prctl(PR_SET_PDEATHSIG, signal.SIGKILL, 0, 0, 0)
     LIBRARY.prctl(PR_SET_IO_FLUSHER, 1, 0, 0, 0)
     try:

@@ -1,4 +1,5 @@
-"""What a node has told of its record before the power failed, and what a restart finds of it: for tests/power."""
+"""What a node has told of its record before the power failed, and what a restart finds of it: for
+tests/power."""
 
 import bisect
 import collections
@@ -13,17 +14,21 @@ from ..files import bytes_of
 from ..group import SESSION
 from ..program import PROGRAM, Broken
 
-# From some time on so many bytes of the record must not be lost, and why: "synced", or "answered" since the node sent or showed something.
+# From some time on so many bytes of the record must not be lost, and why: "synced", or "answered"
+# since the node sent or showed something.
 Claim = collections.namedtuple("Claim", "time length why")
-# What a restart does with a record: the program's status, what it said, and the record that it left, with its own start.
+# What a restart does with a record: the program's status, what it said, and the record that it
+# left, with its own start.
 Restart = collections.namedtuple("Restart", "status said left")
-# A record in an image: its kind, how many changes of the final record are read from it, and a text for what must not be.
+# A record in an image: its kind, how many changes of the final record are read from it, and a text
+# for what must not be.
 Finding = collections.namedtuple("Finding", "kind read fault")
 
 
 def claims_of(notes, record):
-    """Returns the claims of the notes that tests/parts/power/sync.c has made for a record. A file that got the record's name has it for
-    sure when the folder is synced, and its bytes when they were synced under either name."""
+    """Returns the claims of the notes that tests/parts/power/sync.c has made for a record. A file
+    that got the record's name has it for sure when the folder is synced, and its bytes when they
+    were synced under either name."""
     synced, is_named, claims = {}, False, []
     for moment, kind, length, path in notes:
         if kind == "answer":
@@ -49,7 +54,8 @@ def notes_of(path):
 
 
 def size_of_entry(log, at):
-    """Returns the bytes of the log's entry there, as docs/FORMATS.md has them, or None where it is cut before its length is known."""
+    """Returns the bytes of the log's entry there, as docs/FORMATS.md has them, or None where it is
+    cut before its length is known."""
     if log[at] == START:
         return 1
     if log[at] == PROMISE:
@@ -76,8 +82,8 @@ def entries_of(log):
 
 
 def changes_of(log):
-    """Returns the changes of a log in their order, each as its entry with its end. A promise of the ballot that is promised changes
-    nothing: the program puts such ones before votes."""
+    """Returns the changes of a log in their order, each as its entry with its end. A promise of the
+    ballot that is promised changes nothing: the program puts such ones before votes."""
     changes, promised = [], None
     for end, entry in entries_of(log):
         ballot = {PROMISE: entry[1:6], VOTE: entry[5:10]}.get(entry[0])
@@ -99,13 +105,19 @@ class Restarts:
         self.known = {}
 
     def restart(self, data, node):
-        """Starts a node on a record with these bytes, for no turn: it loads the record, and saves its start."""
+        """Starts a node on a record with these bytes, for no turn: it loads the record, and saves
+        its start."""
         if data not in self.known:
             with open(self.copy, "wb") as file:
                 file.write(data)
             addresses = free_addresses(len(node.addresses))
-            words = command_of(PROGRAM, self.file, node.number, SESSION, self.copy, addresses, turns=0)
-            done = subprocess.run(words, check=False, stdin=subprocess.DEVNULL, capture_output=True, text=True, timeout=60)
+            words = command_of(
+                PROGRAM, self.file, node.number, SESSION, self.copy, addresses, turns=0
+            )
+            done = subprocess.run(
+                words, check=False, stdin=subprocess.DEVNULL, capture_output=True, text=True,
+                timeout=60,
+            )
             if "socket" in done.stderr:
                 raise Broken("a fault of the test: an address was taken")
             self.known[data] = Restart(done.returncode, done.stderr.strip(), bytes_of(self.copy))
@@ -121,24 +133,28 @@ class Record:
         try:
             record_of(final)
         except Damaged as fault:
-            raise Broken(f"the record of node {node.number} is damaged, though no power was cut: {fault}")
+            what = f"the record of node {node.number} is damaged, though no power was cut"
+            raise Broken(f"{what}: {fault}")
         self.edges = {LOG_HEADER, *(end for end, _ in entries_of(final))}
         changes = changes_of(final)
         self.ends, self.changes = [end for end, _ in changes], [entry for _, entry in changes]
 
     def read_from(self, left):
-        """Returns the finding without its kind for a start that left this record: it is that start behind what was read."""
+        """Returns the finding without its kind for a start that left this record: it is that start
+        behind what was read."""
         try:
             record_of(left)
             changes = [entry for _, entry in changes_of(left)]
         except Damaged as fault:
             return Finding("other", 0, f"the start has left a record that is damaged: {fault}")
         if changes[-1:] != [bytes([START])]:
-            return Finding("other", 0, "the start is not the last change of the record that it has left")
+            text = "the start is not the last change of the record that it has left"
+            return Finding("other", 0, text)
         for index, (read, was) in enumerate(zip_longest(changes[:-1], self.changes)):
             if read != was and read is not None:
                 of = "no other" if was is None else was.hex()
-                return Finding("other", index, f"change {index + 1} is read as {read.hex()}, and was {of}")
+                text = f"change {index + 1} is read as {read.hex()}, and was {of}"
+                return Finding("other", index, text)
         return Finding(None, len(changes) - 1, None)
 
     def count_at(self, length):
@@ -156,7 +172,8 @@ class Record:
         return f"it has {len(data)} bytes, and from {same} on {read} in place of {was}"
 
     def kind_of(self, data, restarts):
-        """Returns what a restart finds in these bytes, and the program does with them, but not yet whether something is lost."""
+        """Returns what a restart finds in these bytes, and the program does with them, but not yet
+        whether something is lost."""
         is_begin = data == self.final[: len(data)]
         if is_begin and len(data) in self.edges:
             return Finding("whole", self.count_at(len(data)), None)
@@ -167,12 +184,14 @@ class Record:
         return found._replace(kind=found.kind or ("cut" if is_begin else "torn"))
 
     def finding(self, data, moment, restarts):
-        """Returns the finding for the bytes of this record in an image, or None for no record, where the power failed at this moment."""
+        """Returns the finding for the bytes of this record in an image, or None for no record,
+        where the power failed at this moment."""
         found = Finding("none", 0, None) if data is None else self.kind_of(data, restarts)
         if found.fault:
             return found
         for why in ("synced", "answered"):
-            length = max((it.length for it in self.claims if it.time <= moment and it.why == why), default=0)
+            before = [it for it in self.claims if it.time <= moment and it.why == why]
+            length = max((it.length for it in before), default=0)
             if found.read < self.count_at(length):
                 fault = f"{self.count_at(length)} changes were {why}, and {found.read} are read"
                 return Finding("lost", found.read, fault)

@@ -24,7 +24,8 @@ class Refused(Exception):
 
 
 def say(words, text):
-    """Writes a line with the time as a node's log has it. If it cannot be written it is left out."""
+    """Writes a line with the time as a node's log has it. If it cannot be written it is left
+    out."""
     now = time.time_ns() // 10**6
     try:
         line = f"{now // 1000}.{now % 1000:03d} supervise node {words.id} {text}"

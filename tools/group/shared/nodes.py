@@ -19,10 +19,10 @@ def command_of(program, file, node, session, record, addresses, *more, turns=TUR
 
 
 def free_addresses(count):
-    """Returns `count` loopback addresses whose ports nobody has bound. They are below the range from
-    which the system gives ports to those that ask for any: a node that is started again finds its
-    own still free. PGROUP_PORTS has the first port and the last, as `20000-25999`: scripts that run
-    at the same time get ports of their own."""
+    """Returns `count` loopback addresses whose ports nobody has bound. They are below the range
+    from which the system gives ports to those that ask for any: a node that is started again finds
+    its own still free. PGROUP_PORTS has the first port and the last, as `20000-25999`: scripts that
+    run at the same time get ports of their own."""
     first, last = map(int, os.environ.get("PGROUP_PORTS", "20000-31999").split("-"))
     found = []
     while len(found) < count:
@@ -38,8 +38,8 @@ def free_addresses(count):
 
 
 def socket_at(port):
-    """Returns the words of the line of /proc/net/udp for the socket with this port that is connected
-    to nobody, or None if there is no such socket."""
+    """Returns the words of the line of /proc/net/udp for the socket with this port that is
+    connected to nobody, or None if there is no such socket."""
     with open("/proc/net/udp", encoding="ascii") as table:
         for line in table:
             words = line.split()
@@ -49,7 +49,8 @@ def socket_at(port):
 
 
 def dropped_at(port):
-    """Returns how many datagrams the socket with this port has dropped, or None if there is none."""
+    """Returns how many datagrams the socket with this port has dropped, or None if there is
+    none."""
     words = socket_at(port)
     return int(words[-1]) if words else None
 
