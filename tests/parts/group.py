@@ -204,6 +204,18 @@ class Node(Running):
         return {**self.typed, read_head(self.record).starts: bytes(self.sent)}
 
 
+class Piped(Node):
+    """A node whose console is a pipe, so that what it shows is seen at once."""
+
+    def start(self, file, campaigns=False, env=None):
+        with open(self.errors, "ab") as errors:
+            self.process = subprocess.Popen(
+                self.command(file, *["--campaign"] * campaigns), stdin=subprocess.DEVNULL,
+                stdout=subprocess.PIPE, stderr=errors, env=self.environment(env),
+            )
+        os.set_blocking(self.process.stdout.fileno(), False)
+
+
 class Group:
     """Nodes on one machine, a text that is typed at them, and what happened so far."""
 

@@ -14,18 +14,13 @@ import socket
 import threading
 import time
 
-# The kinds of datagrams by their numbers. Those of KEYED carry keys that wait to be shown.
-KINDS = range(1, 9)
-PREPARE, PROMISE, ACCEPT, ACCEPTED, REFUSED, SUBMIT, ASK, TELL = KINDS
-KEYED = (SUBMIT, ACCEPT, ACCEPTED, TELL)
+from shared.replica.datagram import KINDS, kind_of
+
+# The kinds of datagrams that carry keys which wait to be shown.
+KEYED = ("submit", "accept", "accepted", "tell")
 # The bytes that may wait in a socket, the greatest datagram that is taken, and how many are taken
 # from one socket before the others have their turn.
 ROOM, GREATEST, AT_ONCE = 1 << 22, 2048, 16
-
-
-def kind_of(data):
-    """Returns the kind of a datagram, or 0 if it has none."""
-    return data[3] if len(data) > 3 and data[3] in KINDS else 0
 
 
 class Network:
@@ -121,7 +116,7 @@ class Loss:
 
     sender: int
     receiver: int
-    kind: int
+    kind: str
     end: bytes = b""
     first: int = 1
     count: int = 1
@@ -148,7 +143,7 @@ class SlowNetwork(Network):
         """The delay is in seconds, from one node to another."""
         super().__init__(addresses)
         self.delays = (delay,)
-        self.sent = {(*pair, kind): 0 for pair in self.seen for kind in (0, *KINDS)}
+        self.sent = {(*pair, kind): 0 for pair in self.seen for kind in (None, *KINDS)}
         self.losses = []
 
     def count_of(self, *kinds):

@@ -19,7 +19,7 @@ class Broken(AssertionError):
     """Something does not hold."""
 
 
-def check(holds, what):
+def must(holds, what):
     """Raises Broken with the text `what` unless `holds` is true."""
     if not holds:
         raise Broken(what)

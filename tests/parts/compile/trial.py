@@ -9,7 +9,7 @@ import sys
 
 from ..checks import passed
 from ..files import bytes_of
-from ..program import PROGRAM, TOP, check
+from ..program import PROGRAM, TOP, must
 from . import limits
 from .cases import CASES
 from .programs import BY_HAND, PROGRAMS
@@ -59,9 +59,9 @@ def prints(name, text, given, output, ending, options=None):
     try:
         data = compile_text(text, f"{name}.pas", options).data
     except Refused as refused:
-        check(False, f"{name} is refused: {refused.faults[0].place}: {refused.faults[0]}")
+        must(False, f"{name} is refused: {refused.faults[0].place}: {refused.faults[0]}")
     found = run(data, given)
-    check(found == (output, ending), f"{name}: {found} is not {(output, ending)}")
+    must(found == (output, ending), f"{name}: {found} is not {(output, ending)}")
 
 
 def try_cases():
@@ -74,7 +74,7 @@ def try_cases():
     prints("no echo", text, "a\n", "a\n", "", Options(is_echoed=False))
     write("part.inc", "CONST FIVE = 5;\n{$R-}")
     text = "PROGRAM T; {$I part.inc}\nVAR N: 1..9; BEGIN N := 2 * FIVE; WRITE(N) END."
-    check("10 is outside 1..9" in faults_of(text)[0], "a constant of an included file")
+    must("10 is outside 1..9" in faults_of(text)[0], "a constant of an included file")
     prints("an included file", text.replace("N := 2 * ", "N := "), "", "5", "")
     text = ("PROGRAM T; TYPE A = ARRAY[1..3] OF CHAR; VAR P: ^A; BEGIN NEW(P); NEW(P); "
             "WRITE(MEMAVAIL); NEW(P) END.")
@@ -87,13 +87,13 @@ def try_programs():
     for name, given, output, ending in PROGRAMS:
         data = compile_text(read_text(os.path.join(EXAMPLES, name)), name).data
         found = run(data, given)
-        check(found[1] == ending, f"{name} ends with {found[1]!r}, and not with {ending!r}")
+        must(found[1] == ending, f"{name} ends with {found[1]!r}, and not with {ending!r}")
         if isinstance(output, str):
-            check(found[0] == output, f"{name}: {found[0]!r} is not {output!r}")
+            must(found[0] == output, f"{name}: {found[0]!r} is not {output!r}")
             continue
         rest = found[0]
         for part in output:
-            check(part in rest, f"{name}: {part!r} is not in {rest!r}")
+            must(part in rest, f"{name}: {part!r} is not in {rest!r}")
             rest = rest.split(part, 1)[1]
     passed(f"the examples print what they have to on {len(PROGRAMS)} inputs")
 
@@ -113,8 +113,8 @@ def try_group():
     done = subprocess.run([PROGRAM, "sim", "g.code", "g.script"], check=True, capture_output=True)
     shown = [line.split(b" ")[-1].decode() for line in done.stdout.split(b"\n")[:3]]
     whole = output.encode().hex().upper()
-    check(shown[1:] == [whole, whole] and whole.startswith(shown[0]) and shown[0] != whole,
-          f"the consoles of {name} at three nodes are {shown}")
+    must(shown[1:] == [whole, whole] and whole.startswith(shown[0]) and shown[0] != whole,
+         f"the consoles of {name} at three nodes are {shown}")
     passed("a program shows at three nodes what it prints alone")
 
 
@@ -125,9 +125,9 @@ def try_sizes():
         data = compile_text(read_text(os.path.join(EXAMPLES, name)), name).data
         given = next(it[1] for it in PROGRAMS if it[0] == name)
         length = int.from_bytes(data[6:8], "little")
-        check(length <= 1.1 * size, f"{name} has {length} bytes, and {size} by hand")
+        must(length <= 1.1 * size, f"{name} has {length} bytes, and {size} by hand")
         ending = run(data, given, "--steps", str(int(1.1 * steps) + 1))[1]
-        check(ending == "", f"{name} ends with {ending!r} within a tenth more than {steps} steps")
+        must(ending == "", f"{name} ends with {ending!r} within a tenth more than {steps} steps")
     passed(f"{len(BY_HAND)} programs are as small and as fast as by hand, to a tenth")
 
 
@@ -137,19 +137,19 @@ def try_made():
     found = sorted(glob.glob(os.path.join(EXAMPLES, "**", "*.pas"), recursive=True))
     for path in found:
         text, code, listing = path, path[:-4] + ".code", path[:-4] + ".lst"
-        check(tool("-o", "made.code", text)[0] == 0, f"{path} is refused")
-        check(bytes_of("made.code") == bytes_of(code), f"{code} is not that of its text")
+        must(tool("-o", "made.code", text)[0] == 0, f"{path} is refused")
+        must(bytes_of("made.code") == bytes_of(code), f"{code} is not that of its text")
         status, assembly, _ = tool("--asm", text)
         write("again.asm", assembly)
-        check(status == 0 and assembler.main(["again.asm"]) == 0, f"the assembly of {path}")
+        must(status == 0 and assembler.main(["again.asm"]) == 0, f"the assembly of {path}")
         is_same = bytes_of("again.code") == bytes_of(code)
-        check(is_same, f"the assembly of {path} makes another file")
+        must(is_same, f"the assembly of {path} makes another file")
         status, listed, _ = tool("--list", os.path.basename(path), folder=os.path.dirname(path))
         if os.path.exists(listing):
-            check(listed.encode() == bytes_of(listing), f"{listing} is not the listing of {path}")
+            must(listed.encode() == bytes_of(listing), f"{listing} is not the listing of {path}")
         plain = subprocess.run([PROGRAM, "list", code], check=True, capture_output=True).stdout
         lines = [line for line in listed.splitlines(True) if not line.startswith(";")]
-        check("".join(lines).encode() == plain, f"the listing of {path}")
+        must("".join(lines).encode() == plain, f"the listing of {path}")
     passed(f"{len(found)} code files are those of their texts, also by their assembly")
 
 
@@ -157,23 +157,23 @@ def try_refusals():
     count = 0
     for statement, column, part in STATEMENTS:
         told = faults_of(f"{DECLARED}{statement}\nEND.\n")
-        check(told and told[0].startswith(f"t.pas:{LINE}:{column}: ") and part in told[0],
-              f"{statement} ought to be refused at {LINE}:{column} with {part!r}; it is {told}")
+        must(told and told[0].startswith(f"t.pas:{LINE}:{column}: ") and part in told[0],
+             f"{statement} ought to be refused at {LINE}:{column} with {part!r}; it is {told}")
         count += 1
     for declaration, column, part in DECLARATIONS:
         told = faults_of(f"PROGRAM T;\n{declaration}\nBEGIN END.\n")
-        check(told and told[0].startswith(f"t.pas:2:{column}: ") and part in told[0],
-              f"{declaration} ought to be refused at 2:{column} with {part!r}; it is {told}")
+        must(told and told[0].startswith(f"t.pas:2:{column}: ") and part in told[0],
+             f"{declaration} ought to be refused at 2:{column} with {part!r}; it is {told}")
         count += 1
     for text, place, part in TEXTS:
         told = faults_of(text)
-        check(told and told[0].startswith(f"t.pas:{place}: ") and part in told[0],
-              f"{text!r} ought to be refused at {place} with {part!r}; it is {told}")
+        must(told and told[0].startswith(f"t.pas:{place}: ") and part in told[0],
+             f"{text!r} ought to be refused at {place} with {part!r}; it is {told}")
     for text, places in ((SEVERAL, SEVERAL_PLACES), (TYPED, TYPED_PLACES)):
         told = faults_of(text)
-        check([it.split(": ")[0][6:] for it in told] == places, f"all faults are told: {told}")
+        must([it.split(": ")[0][6:] for it in told] == places, f"all faults are told: {told}")
     told = faults_of(DECLARED + "I := 'A';\n" * 20 + "END.")
-    check(len(told) == 10, "ten faults are told")
+    must(len(told) == 10, "ten faults are told")
     passed(f"{count + len(TEXTS) + 2} texts are refused at their places")
 
 
@@ -182,10 +182,10 @@ def try_limits():
         prints(name, text, given, output, "")
     for name, text, part in limits.refused():
         told = faults_of(text)
-        check(len(told) > 0 and part in told[0], f"{name}: {told[:1]}")
+        must(len(told) > 0 and part in told[0], f"{name}: {told[:1]}")
     write("circle.inc", "{$I circle.inc}")
     told = faults_of("PROGRAM T; {$I circle.inc} BEGIN END.")
-    check("more than 20 files include one another" in told[0], f"a circle of files: {told}")
+    must("more than 20 files include one another" in told[0], f"a circle of files: {told}")
     passed("limits are met, and told")
 
 
@@ -218,12 +218,12 @@ def try_garbled(count):
             data = compile_text(text, "t.pas").data
         except Refused as refused:
             told = str(refused.faults[0].place)
-            check(re.match(r"(t\.pas|part\.inc):\d+:\d+$", told), f"{told!r} is no place: {text}")
+            must(re.match(r"(t\.pas|part\.inc):\d+:\d+$", told), f"{told!r} is no place: {text}")
             continue
         taken += 1
         write("t.code", data)
         done = subprocess.run([PROGRAM, "check", "t.code"], check=False, capture_output=True)
-        check(done.returncode == 0, f"the loader says {done.stderr!r} of what is made of {text}")
+        must(done.returncode == 0, f"the loader says {done.stderr!r} of what is made of {text}")
     passed(f"of {count} garbled texts {taken} make files that `check` takes, and "
           f"{count - taken} are refused at a place")
 
@@ -240,37 +240,37 @@ def try_command():
     write("hello.pas", "PROGRAM HELLO;\nVAR N: INTEGER;\nBEGIN\n  N := 0;\n  {$L+} WRITELN('HI');\n"
           "  N := 1 DIV N\nEND.\n")
     status, out, err = tool("hello.pas")
-    check((status, out) == (0, "") and "hello.pas:5:3: note: the option L is not there" in err,
-          f"hello.pas: {status} {out} {err}")
+    must((status, out) == (0, "") and "hello.pas:5:3: note: the option L is not there" in err,
+         f"hello.pas: {status} {out} {err}")
     done = subprocess.run([PROGRAM, "run", "hello.code"], check=False, capture_output=True)
     said = re.fullmatch(rb"execution error 6 in procedure (\d+) at (\d+)\n", done.stderr)
-    check(done.stdout == b"HI\n" and said, f"hello.code says {done.stderr}")
+    must(done.stdout == b"HI\n" and said, f"hello.code says {done.stderr}")
     found = tool("--where", said[1].decode(), said[2].decode(), "hello.pas")[1]
-    check(found == "hello.pas:6: N := 1 DIV N\n", f"--where says {found}")
-    check(tool("--where", "1", "9999", "hello.pas")[0] == 1, "--where 1 9999 is refused")
+    must(found == "hello.pas:6: N := 1 DIV N\n", f"--where says {found}")
+    must(tool("--where", "1", "9999", "hello.pas")[0] == 1, "--where 1 9999 is refused")
     write("heap.pas", "PROGRAM H; VAR P: ^INTEGER; BEGIN WHILE TRUE DO NEW(P) END.")
-    check(tool("heap.pas")[0] == 0, "heap.pas is compiled")
+    must(tool("heap.pas")[0] == 0, "heap.pas is compiled")
     done = subprocess.run([PROGRAM, "run", "heap.code"], check=False, capture_output=True)
     said = re.fullmatch(rb"execution error 1 in procedure (\d+) at (\d+)\n", done.stderr)
     found = tool("--where", said[1].decode(), said[2].decode(), "heap.pas")[1]
-    check(found.startswith("library/heap.pas:") and "the heap is full" in found, found)
+    must(found.startswith("library/heap.pas:") and "the heap is full" in found, found)
     status, out, _ = tool("--help")
-    check(status == 0 and "nothing of it is proved" in out and "--where" in out, "--help")
+    must(status == 0 and "nothing of it is proved" in out and "--where" in out, "--help")
     for words in ((), ("--gone", "hello.pas"), ("--where", "1", "hello.pas"), ("hello.pas", "x"),
                   ("--heap", "0", "hello.pas"), ("--check", "--asm", "hello.pas")):
-        check(tool(*words)[0] == 2, f"{words} are no words")
-    check("PROCEDURE PUTCHAR(C: CHAR);" in tool("--library")[1], "--library")
+        must(tool(*words)[0] == 2, f"{words} are no words")
+    must("PROCEDURE PUTCHAR(C: CHAR);" in tool("--library")[1], "--library")
     write("bad.pas", "PROGRAM B; BEGIN X := 1 END.")
     write("bad.code", "old")
     before = sorted(os.listdir("."))
-    check(tool("bad.pas") == (1, "", "bad.pas:1:18: X is not declared\n"), "bad.pas is refused")
-    check(tool("gone.pas")[0] == 1 and tool("--check", "hello.pas")[0] == 0, "gone.pas, --check")
-    check(tool("-o", "hello.pas", "hello.pas")[0] == 1, "the text is not written over")
+    must(tool("bad.pas") == (1, "", "bad.pas:1:18: X is not declared\n"), "bad.pas is refused")
+    must(tool("gone.pas")[0] == 1 and tool("--check", "hello.pas")[0] == 0, "gone.pas, --check")
+    must(tool("-o", "hello.pas", "hello.pas")[0] == 1, "the text is not written over")
     is_left = sorted(os.listdir(".")) == before and bytes_of("bad.code") == b"old"
-    check(is_left, "nothing is written")
-    check(tool("-o", "gone/x.code", "hello.pas")[0] == 1, "a folder that is not there")
+    must(is_left, "nothing is written")
+    must(tool("-o", "gone/x.code", "hello.pas")[0] == 1, "a folder that is not there")
     old = "import sys; sys.version_info = (3, 6, 15); sys.argv = ['compile']; "
     done = subprocess.run([sys.executable, "-c", f"{old}exec(open({TOOL!r}).read())"], check=False,
                           capture_output=True)
-    check(done.returncode == 2 and b"Python 3.8 or newer is wanted" in done.stderr, "an old Python")
+    must(done.returncode == 2 and b"Python 3.8 or newer is wanted" in done.stderr, "an old Python")
     passed("words, statuses and files are as help says")

@@ -13,7 +13,7 @@ import os
 from shared.record import Damaged, record_of
 
 from .. import readers
-from ..program import Broken
+from ..program import Broken, must
 
 # A line of the trace. `number` is None for what is sent or shown, `done` is None where the call was
 # not made.
@@ -44,11 +44,6 @@ def line_of(call):
 
 def text_of(calls):
     return "\n".join(map(line_of, calls))
-
-
-def must(holds, text):
-    if not holds:
-        raise Broken(text)
 
 
 class File:

@@ -21,7 +21,7 @@ import sys
 import tempfile
 import time
 
-from ..mounts import LIBRARY, mount, must
+from ..mounts import LIBRARY, check_status, mount
 from ..program import TESTS, Broken
 
 SECTOR = 512
@@ -60,8 +60,8 @@ class Server:
         self.notes = open(notes, "wb", buffering=1 << 20)
         self.fuse = os.open("/dev/fuse", os.O_RDWR)
         options = f"fd={self.fuse},rootmode=40000,user_id=0,group_id=0,max_read={MOST}"
-        is_mounted_here = mount(b"power", os.fsencode(folder), b"fuse", 0, options.encode())
-        must(is_mounted_here, f"nothing can be mounted on {folder}")
+        status = mount(b"power", os.fsencode(folder), b"fuse", 0, options.encode())
+        check_status(status, f"nothing can be mounted on {folder}")
         self.answers = {
             INIT: self.begin, LOOKUP: self.find, GETATTR: self.attributes, SETATTR: self.attributes,
             OPEN: self.open, OPENDIR: self.open, READ: self.read, WRITE: self.write,

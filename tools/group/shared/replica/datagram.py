@@ -12,6 +12,12 @@ MOST_VOTES = 8
 KINDS = ("prepare", "promise", "accept", "accepted", "refused", "submit", "ask", "tell")
 
 
+def kind_of(data):
+    """The name of a datagram's kind by its number, whatever else it has, or None."""
+    number = data[3] if len(data) > 3 else 0
+    return KINDS[number - 1] if 1 <= number <= len(KINDS) else None
+
+
 class Refused(Exception):
     """The code of the first check that fails, as the command prints it."""
 
@@ -114,12 +120,13 @@ def message_of(data, size, session):
     must(len(data) >= 10, "G1")
     must(data[:2] == b"PG", "G2")
     must(data[2] == 2, "G3")
-    must(1 <= data[3] <= len(KINDS), "G4")
+    kind = kind_of(data)
+    must(kind, "G4")
     must(data[5] == size and data[6:10] == session.to_bytes(4, "big"), "G5")
     must(1 <= data[4] <= size, "G6")
     reader = Reader(data, size)
     reader.at, reader.sender = 10, data[4]
-    message = Message(KINDS[data[3] - 1], data[4], fields_of(reader, KINDS[data[3] - 1]))
+    message = Message(kind, data[4], fields_of(reader, kind))
     must(reader.at == len(data), "G12")
     return message
 

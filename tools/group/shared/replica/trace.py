@@ -4,7 +4,7 @@ it, and refuses what is none."""
 import collections
 import re
 
-from .datagram import KINDS
+from .datagram import kind_of
 
 # A call of a node: its kind, and the bytes heard (and from where), the bytes of the record or None,
 # a character, steps, or the number and the byte of a release. `sends` are pairs of whom a datagram
@@ -122,7 +122,7 @@ class Reader:
     def on_send(self, to_all, node, data):
         self.must(self.calls() and self.begun is None, "nothing was called that could send")
         data = bytes.fromhex(data)
-        is_one = len(data) > 10 and data[:3] == b"PG\x02" and 1 <= data[3] <= len(KINDS)
+        is_one = len(data) > 10 and data[:3] == b"PG\x02" and kind_of(data)
         self.must(is_one, "what was sent is no datagram")
         self.calls()[-1].sends.append((ALL if to_all else int(node), data))
 
