@@ -19,15 +19,13 @@ need() {
 # is built in a separate repository, with the crates that these depend on, since the gate would
 # take it for one of this repository's crates.
 build_proved() {
-  local crate
+  local crate crates
   need rt 'Rattle toolchain'
   mkdir -p "$work/crates/bench/src"
-  for crate in $(cd "$top" && for crate in "$@"; do crates_up_to "$crate"; done | sort -u); do
-    cp -R "$top/crates/$crate" "$work/crates/"
-    grep "^$crate:" "$top/crates.txt" >> "$work/crates.txt"
-  done
+  mapfile -t crates < <(cd "$top" && for crate in "$@"; do crates_up_to "$crate"; done | sort -u)
+  # What was kept of their proofs too.
+  copy_crates "$top" "$work" '' "${crates[@]}"
   echo "bench: $*" >> "$work/crates.txt"
-  cp "$top/HANDLES" "$work/"
   cp "$here/proved.rattle" "$work/crates/bench/src/main.rt"
   if ! (cd "$work/crates/bench" && rt run) < /dev/null > "$work/log" 2>&1; then
     tail -n 20 "$work/log" >&2

@@ -1,6 +1,6 @@
 # shellcheck shell=bash
-# Functions of ./run, ./test and tools/package: the crates that another depends on, what the program
-# is made of, the kit, and the recorded program.
+# Functions of ./run, ./test, tools/package and benches: the crates that another depends on, copies
+# of them, what the program is made of, the kit, and the recorded program.
 
 # Prints the crate $1 and all crates of crates.txt that it depends on, lowest first, one a line. The
 # tree is the current folder.
@@ -21,6 +21,25 @@ crates_up_to() {
     }
     END { visit(top) }
   ' crates.txt
+}
+
+# copy_crates TOP TREE LEFT CRATE..: copies crates of the repository TOP into TREE, with their lines
+# of crates.txt and with HANDLES. LEFT has the names of those parts of a crate that are left out.
+copy_crates() {
+  local top=$1 tree=$2 left=" $3 " crate part
+  shift 3
+  if [ -f "$top/HANDLES" ]; then
+    cp "$top/HANDLES" "$tree"
+  fi
+  for crate in "$@"; do
+    grep "^${crate}[ :]" "$top/crates.txt" >> "$tree/crates.txt"
+    mkdir -p "$tree/crates/$crate"
+    for part in "$top/crates/$crate"/*; do
+      if [[ $left != *" ${part##*/} "* ]]; then
+        cp -R "$part" "$tree/crates/$crate"
+      fi
+    done
+  done
 }
 
 # Prints one sum over the sources of pgroup in the tree $1: of pgroup and each crate that it depends
