@@ -1,5 +1,5 @@
-// What an acceptor's save to a log does, in plain Rust: each time 22 bytes, which are the entry of a vote for one key, are appended
-// to a file and its data is synced. Prints the nanoseconds of one.
+// What an acceptor's save to a log does, in plain Rust: each time 22 bytes, which are the entry of
+// a vote for one key, are appended to a file and its data is synced. Prints the nanoseconds of one.
 use std::fs::OpenOptions;
 use std::io::Write;
 use std::time::Instant;

@@ -1,5 +1,5 @@
-//! A plain hand-written codec of the same format, to measure the proved one against. It makes the same
-//! checks, lends votes out of the datagram in the same way, and works on the same bytes.
+//! A plain hand-written codec of the same format, to measure the proved one against. It makes the
+//! same checks, lends votes out of the datagram in the same way, and works on the same bytes.
 #[derive(Clone, Copy, PartialEq, Eq, PartialOrd, Ord)]
 pub struct Ballot {
     pub round: u32,

@@ -1,13 +1,15 @@
-/* Loaded into a program by LD_PRELOAD, this runs it again and again, each time in a process of its own, and refuses
-   requests for memory. Each run begins with a fork, before `main`, so that the program is loaded only once.
+/* Loaded into a program by LD_PRELOAD, this runs it again and again, each time in a process of its
+   own, and refuses requests for memory. Each run begins with a fork, before `main`, so that the
+   program is loaded only once.
 
-   tests/parts/again.py writes the runs to descriptor 198, one at a time. A run is the number of the first request that
-   is refused, that of the last one, 0 and 0 for none, and the words of the program, each with a zero byte behind it. It
-   has as many words as the program was started with, and at most 4,096 bytes, which a pipe hands over whole. The
-   answer on descriptor 199 is the exit status, or the number of the signal below 0, and whether a request was refused.
+   tests/parts/again.py writes the runs to descriptor 198, one at a time. A run is the number of the
+   first request that is refused, that of the last one, 0 and 0 for none, and the words of the
+   program, each with a zero byte behind it. It has as many words as the program was started with,
+   and at most 4,096 bytes, which a pipe hands over whole. The answer on descriptor 199 is the exit
+   status, or the number of the signal below 0, and whether a request was refused.
 
-   The program and the C library get all their memory by these functions: the program itself calls malloc, realloc and
-   free alone. */
+   The program and the C library get all their memory by these functions: the program itself calls
+   malloc, realloc and free alone. */
 
 #include <errno.h>
 #include <stdio.h>
@@ -76,7 +78,8 @@ static void answer(int ended) {
 __attribute__((constructor)) static void serve(int count, char **words) {
   static char run[LONGEST];
   unsigned long from, to;
-  has_refused = mmap(NULL, sizeof *has_refused, PROT_READ | PROT_WRITE, MAP_SHARED | MAP_ANONYMOUS, -1, 0);
+  int access = PROT_READ | PROT_WRITE, kind = MAP_SHARED | MAP_ANONYMOUS;
+  has_refused = mmap(NULL, sizeof *has_refused, access, kind, -1, 0);
   if (has_refused == MAP_FAILED) _exit(1);
   for (;;) {
     int ended;

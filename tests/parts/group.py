@@ -10,7 +10,7 @@ import subprocess
 import time
 
 from shared.nodes import TURNS, command_of, dropped_at
-from shared.record import NOOP, Damaged, read_head, read_record
+from shared.record import Damaged, keys_in, read_head, read_record
 from shared.words import ask, text_of
 
 from .files import bytes_of
@@ -69,12 +69,7 @@ def values_of(records):
 
 def keys_of(values):
     """Returns the keys of values, each once, in order: node, start, serial and character."""
-    keys = {}
-    for batch in values:
-        if batch is not NOOP:
-            for index, character in enumerate(batch.characters):
-                keys[batch.node, batch.start, batch.first + index, character] = None
-    return list(keys)
+    return list(dict.fromkeys(key for value in values for key in keys_in(value)))
 
 
 def check_consoles(consoles):

@@ -10,13 +10,7 @@ import sys
 from shared.nodes import children_of
 
 from .checks import main_of_checks
-from .program import Broken
-
-
-def ip(*words, check=True):
-    done = subprocess.run(["ip", *words], check=False, capture_output=True)
-    if check and done.returncode != 0:
-        raise Broken(f"ip {' '.join(words)}: {done.stderr.decode()}")
+from .program import Broken, system
 
 
 class Network:
@@ -34,18 +28,18 @@ class Network:
 
     def make(self):
         for host in self.hosts:
-            ip("netns", "add", self.name(host))
+            system("ip", "netns", "add", self.name(host))
             self.ip_at(host, "link", "set", "lo", "up")
             self.ip_at(host, "address", "add", f"{self.address(host)}/32", "dev", "lo")
         for one, two in itertools.combinations(self.hosts, 2):
             ends = [f"to{two}", "netns", self.name(one)], [f"to{one}", "netns", self.name(two)]
-            ip("link", "add", *ends[0], "type", "veth", "peer", "name", *ends[1])
+            system("ip", "link", "add", *ends[0], "type", "veth", "peer", "name", *ends[1])
             self.ip_at(one, "link", "set", f"to{two}", "up")
             self.ip_at(two, "link", "set", f"to{one}", "up")
         self.heal()
 
     def ip_at(self, host, *words):
-        ip("-n", self.name(host), *words)
+        system("ip", "-n", self.name(host), *words)
 
     def heal(self):
         for one, two in itertools.permutations(self.hosts, 2):
@@ -63,7 +57,8 @@ class Network:
 
     def remove(self):
         for host in self.hosts:
-            ip("netns", "del", self.name(host), check=False)
+            words = ["ip", "netns", "del", self.name(host)]
+            subprocess.run(words, check=False, capture_output=True)
 
 
 # The bytes of a host's disk, which take room only where they are written.
@@ -84,21 +79,16 @@ class Host:
         self.has_loop = os.path.exists("/dev/loop-control")
         os.makedirs(self.disk, exist_ok=True)
 
-    def must(self, *words):
-        done = subprocess.run(words, check=False, capture_output=True)
-        if done.returncode != 0:
-            raise Broken(f"{' '.join(words)}: {done.stderr.decode()}")
-
     def make_disk(self):
         """Makes an ext4 file system in a file, or a folder in memory where there are no loop
         devices."""
         if self.has_loop:
             with open(self.image, "wb") as file:
                 file.truncate(DISK)
-            self.must("mkfs.ext4", "-q", "-F", self.image)
+            system("mkfs.ext4", "-q", "-F", self.image)
         else:
             os.mkdir(self.image)
-            self.must("mount", "-t", "tmpfs", "none", self.image)
+            system("mount", "-t", "tmpfs", "none", self.image)
 
     def start(self):
         how = "-oloop" if self.has_loop else "--bind"
@@ -131,7 +121,7 @@ class Host:
     def end(self):
         self.kill()
         if not self.has_loop and os.path.ismount(self.image):
-            self.must("umount", self.image)
+            system("umount", self.image)
 
 
 def main_as_root(name, *checks):

@@ -43,6 +43,15 @@ def end_on_signals():
         signal.signal(number, lambda *_: sys.exit(1))
 
 
+def system(*words):
+    """Runs a command of the system. Raises Broken with what it said if it fails."""
+    done = subprocess.run(
+        words, check=False, stdin=subprocess.DEVNULL, capture_output=True, text=True
+    )
+    if done.returncode != 0:
+        raise Broken(f"{' '.join(words)}: {done.stderr.strip() or done.stdout.strip()}")
+
+
 def limited(memory):
     """What a process does before it runs a command, which may have so many KiB of addresses."""
     size = 1024 * memory

@@ -6,8 +6,9 @@ tools/group/shared/replica/group.py, which tests/draw compares with `sim`; the o
 import collections
 import random
 
+from shared.record import keys_in
 from shared.replica.group import Group, GroupRefused
-from shared.replica.protocol import ALL, keys_in
+from shared.replica.protocol import ALL
 from shared.replica.script import Event, text_of_script
 
 from .echo_code import ECHO

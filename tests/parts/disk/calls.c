@@ -1,10 +1,13 @@
-/* Loaded into a program by LD_PRELOAD, this writes down its calls of the system at the files of a folder, what it sends, and what it
-   writes on standard output, in their order. It can let calls at the folder fail or do less, or end the process there.
+/* Loaded into a program by LD_PRELOAD, this writes down its calls of the system at the files of a
+   folder, what it sends, and what it writes on standard output, in their order. It can let calls at
+   the folder fail or do less, or end the process there.
 
    The environment has
-     DISK_FOLDER   the folder, as a path from the root on. Calls at it and at what is below it are numbered from 1 on
+     DISK_FOLDER   the folder, as a path from the root on. Calls at it and at what is below it are
+                   numbered from 1 on
      DISK_TRACE    the file that gets a line for each call
-     DISK_PLAN     what happens at which calls, apart by spaces: `fails:7:5` lets call 7 fail with error 5
+     DISK_PLAN     what happens at which calls, apart by spaces: `fails:7:5` lets call 7 fail with
+                   error 5
 
    What can happen at a call, with a value:
      fails ERROR   it fails and is not made
@@ -14,9 +17,10 @@
      left STATUS   the process ends after the call
      lost 0        it is said to succeed, but is neither made nor written down
 
-   A line has the call's number, or a hyphen for what is sent or shown; its name; its words; what the program is told; and what was done.
-   Either is what the call returns, or an error below 0. What was not done is a hyphen. Bytes are in hexadecimal digits. A path at the
-   folder begins there.
+   A line has the call's number, or a hyphen for what is sent or shown; its name; its words; what
+   the program is told; and what was done. Either is what the call returns, or an error below 0.
+   What was not done is a hyphen. Bytes are in hexadecimal digits. A path at the folder begins
+   there.
 
    The lines are written and the calls made by `syscall`, which nothing here takes the place of. */
 
@@ -58,7 +62,9 @@ __attribute__((constructor)) static void begin(void) {
   syscall(SYS_close, trace);
   struct plan *plan = plans;
   int length;
-  while (at && count_of_plans < MOST_PLANS && sscanf(at, " %7[a-z]:%lu:%ld%n", plan->what, &plan->number, &plan->value, &length) == 3) {
+  while (at && count_of_plans < MOST_PLANS) {
+    const char *form = " %7[a-z]:%lu:%ld%n";
+    if (sscanf(at, form, plan->what, &plan->number, &plan->value, &length) != 3) break;
     at += length, plan++, count_of_plans++;
   }
 }
@@ -66,12 +72,16 @@ __attribute__((constructor)) static void begin(void) {
 /* Returns the value of the plan for what is to happen at the call with this number, or -1. */
 static long planned(const char *what, unsigned long number) {
   for (int at = 0; at < count_of_plans; at++) {
-    if (strcmp(plans[at].what, what) == 0 && (plans[at].number == number || plans[at].number == 0)) return plans[at].value;
+    const struct plan *plan = &plans[at];
+    int is_of_call = plan->number == number || plan->number == 0;
+    if (is_of_call && strcmp(plan->what, what) == 0) return plan->value;
   }
   return -1;
 }
 
-static int is_of_folder(int handle) { return handle >= 0 && handle < MOST_HANDLES && is_there[handle]; }
+static int is_of_folder(int handle) {
+  return handle >= 0 && handle < MOST_HANDLES && is_there[handle];
+}
 
 /* Writes a path from the root on. Returns whether it is at the folder. */
 static int is_path_there(const char *path, char out[LONGEST_PATH]) {
@@ -115,7 +125,8 @@ static long answered(long told) {
     made < 0 ? -errno : made; \
   })
 
-/* Makes a call at the folder as the plan says, and writes it down. `lost` is what one that is lost is said to return. */
+/* Makes a call at the folder as the plan says, and writes it down. `lost` is what one that is lost
+   is said to return. */
 #define PLANNED(lost, text, ...) \
   ({ \
     unsigned long number = ++calls; \
@@ -136,7 +147,8 @@ static const char *with_bytes(const char *name, int handle, const void *bytes, s
   static char text[LINE];
   int at = snprintf(text, sizeof text, "%s %d ", name, handle);
   if (count > MOST_BYTES) _exit(1);
-  for (size_t byte = 0; byte < count; byte++) at += sprintf(text + at, "%02x", ((const unsigned char *)bytes)[byte]);
+  const unsigned char *data = bytes;
+  for (size_t byte = 0; byte < count; byte++) at += sprintf(text + at, "%02x", data[byte]);
   if (count == 0) strcat(text, "-");
   return text;
 }
@@ -168,7 +180,9 @@ int open(const char *path, int flags, ...) { OPENED(AT_FDCWD); }
 int open64(const char *path, int flags, ...) { OPENED(AT_FDCWD); }
 int openat(int from, const char *path, int flags, ...) { OPENED(from); }
 int openat64(int from, const char *path, int flags, ...) { OPENED(from); }
-int creat(const char *path, mode_t mode) { return opened(AT_FDCWD, path, O_WRONLY | O_CREAT | O_TRUNC, mode); }
+int creat(const char *path, mode_t mode) {
+  return opened(AT_FDCWD, path, O_WRONLY | O_CREAT | O_TRUNC, mode);
+}
 
 ssize_t read(int handle, void *bytes, size_t count) {
   if (!is_of_folder(handle)) return answered(MADE(SYS_read, handle, bytes, count));
@@ -184,7 +198,8 @@ ssize_t write(int handle, const void *bytes, size_t count) {
   if (!is_of_folder(handle)) return answered(MADE(SYS_write, handle, bytes, count));
   long most = planned("most", calls + 1);
   size_t some = most >= 0 && (size_t)most < count ? (size_t)most : count;
-  return answered(PLANNED(count, with_bytes("write", handle, bytes, count), SYS_write, handle, bytes, some));
+  const char *text = with_bytes("write", handle, bytes, count);
+  return answered(PLANNED(count, text, SYS_write, handle, bytes, some));
 }
 
 ssize_t __write(int handle, const void *bytes, size_t count) { return write(handle, bytes, count); }
@@ -201,10 +216,14 @@ int fdatasync(int handle) OF_HANDLE("fdatasync", SYS_fdatasync, handle)
 int ftruncate(int handle, off_t length) OF_HANDLE("ftruncate", SYS_ftruncate, handle, length)
 int ftruncate64(int handle, off_t length) OF_HANDLE("ftruncate", SYS_ftruncate, handle, length)
 off_t lseek(int handle, off_t offset, int from) OF_HANDLE("lseek", SYS_lseek, handle, offset, from)
-off_t lseek64(int handle, off_t offset, int from) OF_HANDLE("lseek", SYS_lseek, handle, offset, from)
-ssize_t pwrite(int handle, const void *bytes, size_t count, off_t at) OF_HANDLE("pwrite", SYS_pwrite64, handle, bytes, count, at)
-ssize_t pwrite64(int handle, const void *bytes, size_t count, off_t at) OF_HANDLE("pwrite", SYS_pwrite64, handle, bytes, count, at)
-ssize_t writev(int handle, const struct iovec *parts, int count) OF_HANDLE("writev", SYS_writev, handle, parts, count)
+off_t lseek64(int handle, off_t offset, int from)
+  OF_HANDLE("lseek", SYS_lseek, handle, offset, from)
+ssize_t pwrite(int handle, const void *bytes, size_t count, off_t at)
+  OF_HANDLE("pwrite", SYS_pwrite64, handle, bytes, count, at)
+ssize_t pwrite64(int handle, const void *bytes, size_t count, off_t at)
+  OF_HANDLE("pwrite", SYS_pwrite64, handle, bytes, count, at)
+ssize_t writev(int handle, const struct iovec *parts, int count)
+  OF_HANDLE("writev", SYS_writev, handle, parts, count)
 
 int close(int handle) {
   if (!is_of_folder(handle)) return answered(MADE(SYS_close, handle));
@@ -215,7 +234,8 @@ int close(int handle) {
 int statx(int from, const char *path, int flags, unsigned mask, struct statx *found) {
   char whole[LONGEST_PATH], text[LINE];
   if (path[0] == '\0' && is_of_folder(from)) {
-    return answered(PLANNED(0, with_number("stat", from), SYS_statx, from, path, flags, mask, found));
+    const char *by_handle = with_number("stat", from);
+    return answered(PLANNED(0, by_handle, SYS_statx, from, path, flags, mask, found));
   }
   if (!is_path_there(path, whole)) return answered(MADE(SYS_statx, from, path, flags, mask, found));
   snprintf(text, sizeof text, "stat %s", name_of(whole));
@@ -226,30 +246,41 @@ int statx(int from, const char *path, int flags, unsigned mask, struct statx *fo
 #define OF_PATHS(name, first, second, ...) \
   { \
     char one[LONGEST_PATH], other[LONGEST_PATH], text[LINE]; \
-    if (!is_path_there(first, one) & !is_path_there(second, other)) return answered(MADE(__VA_ARGS__)); \
+    int is_none = !is_path_there(first, one) & !is_path_there(second, other); \
+    if (is_none) return answered(MADE(__VA_ARGS__)); \
     snprintf(text, sizeof text, "%s %s %s", name, name_of(one), name_of(other)); \
     return answered(PLANNED(0, text, __VA_ARGS__)); \
   }
 
-int rename(const char *old, const char *new) OF_PATHS("rename", old, new, SYS_renameat2, AT_FDCWD, old, AT_FDCWD, new, 0)
-int renameat(int from, const char *old, int to, const char *new) OF_PATHS("rename", old, new, SYS_renameat2, from, old, to, new, 0)
-int link(const char *old, const char *new) OF_PATHS("link", old, new, SYS_linkat, AT_FDCWD, old, AT_FDCWD, new, 0)
+int rename(const char *old, const char *new)
+  OF_PATHS("rename", old, new, SYS_renameat2, AT_FDCWD, old, AT_FDCWD, new, 0)
+int renameat(int from, const char *old, int to, const char *new)
+  OF_PATHS("rename", old, new, SYS_renameat2, from, old, to, new, 0)
+int link(const char *old, const char *new)
+  OF_PATHS("link", old, new, SYS_linkat, AT_FDCWD, old, AT_FDCWD, new, 0)
 int unlink(const char *path) OF_PATHS("unlink", path, "", SYS_unlinkat, AT_FDCWD, path, 0)
 int remove(const char *path) OF_PATHS("unlink", path, "", SYS_unlinkat, AT_FDCWD, path, 0)
-int truncate(const char *path, off_t length) OF_PATHS("truncate", path, "", SYS_truncate, path, length)
+int truncate(const char *path, off_t length)
+  OF_PATHS("truncate", path, "", SYS_truncate, path, length)
 
-ssize_t sendto(int handle, const void *bytes, size_t count, int flags, const struct sockaddr *to, socklen_t size) {
+ssize_t sendto(
+  int handle, const void *bytes, size_t count, int flags, const struct sockaddr *to, socklen_t size
+) {
   long told = MADE(SYS_sendto, handle, bytes, count, flags, to, size);
   if (folder != NULL) note(0, with_bytes("send", handle, bytes, count), told, 1, told);
   return answered(told);
 }
 
-ssize_t send(int handle, const void *bytes, size_t count, int flags) { return sendto(handle, bytes, count, flags, NULL, 0); }
+ssize_t send(int handle, const void *bytes, size_t count, int flags) {
+  return sendto(handle, bytes, count, flags, NULL, 0);
+}
 
 /* The bytes are the first part's. */
 ssize_t sendmsg(int handle, const struct msghdr *message, int flags) {
   long told = MADE(SYS_sendmsg, handle, message, flags);
   const struct iovec *part = message->msg_iov;
-  if (folder != NULL) note(0, with_bytes("send", handle, part->iov_base, part->iov_len), told, 1, told);
+  if (folder != NULL) {
+    note(0, with_bytes("send", handle, part->iov_base, part->iov_len), told, 1, told);
+  }
   return answered(told);
 }

@@ -22,7 +22,7 @@ import tempfile
 import time
 
 from ..mounts import LIBRARY, check_status, mount
-from ..program import TESTS, Broken
+from ..program import TESTS, Broken, system
 
 SECTOR = 512
 BLOCK = 4096
@@ -138,15 +138,6 @@ class Server:
         self.notes.close()
 
 
-def run(*words):
-    """Runs a command of the system. Raises Broken with what it said if it fails."""
-    done = subprocess.run(
-        words, check=False, stdin=subprocess.DEVNULL, capture_output=True, text=True
-    )
-    if done.returncode != 0:
-        raise Broken(f"{' '.join(words)}: {done.stderr.strip() or done.stdout.strip()}")
-
-
 def is_mounted(folder):
     """Whether something is mounted on this folder, even where nobody serves it any more."""
     with open("/proc/self/mounts", encoding="utf-8") as mounts:
@@ -162,7 +153,7 @@ def unmount(folder):
         subprocess.run(["umount", folder], check=False, stderr=subprocess.DEVNULL)
         if is_mounted(folder):
             time.sleep(0.05)
-    run("umount", "--lazy", folder)
+    system("umount", "--lazy", folder)
 
 
 @contextlib.contextmanager
@@ -170,7 +161,7 @@ def mounted(kind, options, path, folder):
     """Has the file system in this file mounted on the folder. The loop device between them goes
     away with the mount."""
     try:
-        run("mount", "-t", kind, "-o", f"loop,{options}", path, folder)
+        system("mount", "-t", kind, "-o", f"loop,{options}", path, folder)
         yield
     finally:
         unmount(folder)

@@ -1,15 +1,19 @@
-/* Loaded into a node by LD_PRELOAD, this notes what the node may rely on if the power fails now: for tests/power.
+/* Loaded into a node by LD_PRELOAD, this notes what the node may rely on if the power fails now:
+   for tests/power.
 
-   POWER_RECORD is the path of the node's record, and POWER_NOTES a file to which a line is appended for each of these calls that succeeds:
-   the time in seconds as CLOCK_MONOTONIC has it, the kind, a length in bytes and a path.
+   POWER_RECORD is the path of the node's record, and POWER_NOTES a file to which a line is appended
+   for each of these calls that succeeds: the time in seconds as CLOCK_MONOTONIC has it, the kind, a
+   length in bytes and a path.
 
-     sync LENGTH PATH     fsync or fdatasync of the file or folder at PATH, which then has this length
+     sync LENGTH PATH     fsync or fdatasync of the file or folder at PATH, which then has this
+                          length
      rename 0 PATH        a file got this name
-     answer LENGTH PATH   the node is about to send a datagram or to show a byte, while its record at PATH has another length than at the
-                          answer before
+     answer LENGTH PATH   the node is about to send a datagram or to show a byte, while its record
+                          at PATH has another length than at the answer before
 
-   The note of a sync or a rename is made when it is done, and that of an answer before it. If POWER_DELAY is not 0, this many microseconds
-   pass before each sync of the record or its second file: as much time as a busy machine may take between a write and the sync. */
+   The note of a sync or a rename is made when it is done, and that of an answer before it. If
+   POWER_DELAY is not 0, this many microseconds pass before each sync of the record or its second
+   file: as much time as a busy machine may take between a write and the sync. */
 
 #define _GNU_SOURCE
 #include <dlfcn.h>
@@ -47,7 +51,10 @@ static void note(const char *kind, off_t length, const char *path) {
   char line[PATH_MAX + 80];
   struct timespec now;
   clock_gettime(CLOCK_MONOTONIC, &now);
-  int size = snprintf(line, sizeof line, "%ld.%09ld %s %ld %s\n", (long)now.tv_sec, now.tv_nsec, kind, (long)length, path);
+  int size = snprintf(
+    line, sizeof line, "%ld.%09ld %s %ld %s\n", (long)now.tv_sec, now.tv_nsec, kind, (long)length,
+    path
+  );
   /* Not by `write`, which is one of the functions below. */
   if (syscall(SYS_write, output, line, (size_t)size) != size) _exit(1);
 }
@@ -80,13 +87,16 @@ int fsync(int file) { return sync_and_note(file, "fsync"); }
 int fdatasync(int file) { return sync_and_note(file, "fdatasync"); }
 
 int rename(const char *from, const char *to) {
-  int (*real)(const char *, const char *) = (int (*)(const char *, const char *))dlsym(RTLD_NEXT, "rename");
+  typedef int renaming(const char *, const char *);
+  renaming *real = (renaming *)dlsym(RTLD_NEXT, "rename");
   int result = real(from, to);
   if (result == 0) note("rename", 0, to);
   return result;
 }
 
-ssize_t sendto(int handle, const void *data, size_t size, int flags, const struct sockaddr *to, socklen_t length) {
+ssize_t sendto(
+  int handle, const void *data, size_t size, int flags, const struct sockaddr *to, socklen_t length
+) {
   note_answer();
   return syscall(SYS_sendto, handle, data, size, flags, to, length);
 }

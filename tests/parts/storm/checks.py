@@ -4,8 +4,7 @@ of docs/FORMATS.md."""
 
 import collections
 
-from shared.record import NOOP, Batch
-from shared.replica.protocol import keys_in
+from shared.record import NOOP, Batch, keys_in
 from shared.replica.shown import difference_of
 
 # What `sim` has shown and which refusals it has printed, and what is known without it: the typed

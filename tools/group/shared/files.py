@@ -1,5 +1,5 @@
 """The files that a supervisor is given: what of them is refused at once, and the lines that say
-so."""
+so. `renew` refuses and tells faults in the same way."""
 
 import errno
 import os

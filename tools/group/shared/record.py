@@ -55,6 +55,14 @@ def must(holds, text):
         raise Damaged(text)
 
 
+def keys_in(value):
+    """The keys of a value: node, start, serial and character."""
+    if value is NOOP:
+        return []
+    first = enumerate(value.characters, value.first)
+    return [(value.node, value.start, serial, character) for serial, character in first]
+
+
 def ballot_of(reader, size):
     ballot = Ballot(reader.number(4), reader.number(1))
     is_one = ballot.round >= 1 and 1 <= ballot.node <= size

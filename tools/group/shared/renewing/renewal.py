@@ -7,7 +7,7 @@ the greatest ballot that a majority reports, and the records are read by this ru
 
 import collections
 
-from ..record import NOOP, PLACES, text_of
+from ..record import PLACES, keys_in, text_of
 
 # What was read: the characters in order; at how many places; how many keys were chosen again; and
 # how many stand above the first place without a vote.
@@ -51,16 +51,6 @@ def value_at(records, place):
                 f"{text_of(ballot)}: one is damaged, or there were two nodes of one number"
             )
     return [value]
-
-
-def keys_in(value):
-    """The keys of a value: node, start, serial and character."""
-    if value is NOOP:
-        return []
-    return [
-        (value.node, value.start, value.first + index, character)
-        for index, character in enumerate(value.characters)
-    ]
 
 
 def typed_in(records):

@@ -5,12 +5,10 @@ import errno
 import os
 import stat
 
+from .. import files
+from ..files import Refused
 from ..record import LOG_HEADER, RETIRED, Damaged, Reader, owner_of, read_record
 from ..watch import is_at, node_processes
-
-
-class Refused(Exception):
-    """Why this cannot go on without a person."""
 
 
 def retired_name(path, session):
@@ -175,7 +173,6 @@ class Target:
 
 
 def text_of_fault(fault):
-    """What the system says of a fault, with the file's name."""
-    name = "" if fault.filename is None else f"{fault.filename}: "
+    """What the system says of a fault, with the file's name, and what helps."""
     full = ": make room there" if fault.errno == errno.ENOSPC else ""
-    return f"{name}{fault.strerror or fault}{full}"
+    return files.text_of_fault(fault) + full

@@ -8,6 +8,7 @@ from ..record import LAST_SERIAL, MOST_KEYS, PLACES, Ballot, Batch
 # A datagram's fields, by their names, and its votes: a place, a ballot and a value each.
 Message = collections.namedtuple("Message", "kind sender fields")
 
+# How many votes a promise has at most, and the kinds by their numbers, from 1 on.
 MOST_VOTES = 8
 KINDS = ("prepare", "promise", "accept", "accepted", "refused", "submit", "ask", "tell")
 

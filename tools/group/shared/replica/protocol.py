@@ -2,8 +2,8 @@
 the program: all of it but the machine. Each call returns the change that it saves, or None, and the
 messages that it sends, each with whom it is for."""
 
-from ..record import LAST_SERIAL, LAST_START, MOST_KEYS, NOOP, PLACES, Ballot, Batch
-from .datagram import Message
+from ..record import LAST_SERIAL, LAST_START, MOST_KEYS, NOOP, PLACES, Ballot, Batch, keys_in
+from .datagram import MOST_VOTES, Message
 from .stored import Promise, Start, Vote
 
 # Whom a message to all is for.
@@ -11,19 +11,10 @@ ALL = 0
 # How far above the front a place is open; how many keys wait at most; and of one call the most
 # proposals of a pump, Accepts that are sent again, and Tells.
 WINDOW, MOST_WAITING, MOST_PUMPED, MOST_AGAIN, MOST_TOLD = 1024, 256, 16, 16, 16
-MOST_VOTES = 8
 
 
 class NodeRefused(Exception):
     """The code of what a node refuses. Nothing has changed then."""
-
-
-def keys_in(value):
-    """The keys of a value: node, start, serial and character."""
-    if value is NOOP:
-        return []
-    first = enumerate(value.characters, value.first)
-    return [(value.node, value.start, serial, character) for serial, character in first]
 
 
 class Proposer:

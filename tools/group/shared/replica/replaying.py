@@ -8,7 +8,6 @@ from .script import SHOW, text_of_event
 from .shown import difference_of, known_of, run_sim, shows_of
 from .trace import read_trace
 
-
 # At how many ends of processes `sim` is looked at besides the end of the script. A later start of a
 # node shows its whole output again, and would hide what was left out before.
 MOST_LOOKS = 200
