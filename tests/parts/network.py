@@ -1,5 +1,6 @@
 """A network between the nodes of a group on this machine, which tests/faults, tests/slow and
 bench/slow/run share. It passes datagrams on late, several times or not at all, and counts them.
+What the system counts is here too.
 
 Between two nodes there are two sockets. Each of the nodes takes one of them for the other node,
 since a node drops what comes from an address that it does not know. So each node has its own list
@@ -99,6 +100,13 @@ class Network:
             self.thread.join()
         for it in self.seen.values():
             it.close()
+
+
+def udp_counts(*names):
+    """Returns what this network namespace has counted of UDP so far, by names of /proc/net/snmp."""
+    with open("/proc/net/snmp", encoding="ascii") as table:
+        there, counts = [line.split() for line in table if line.startswith("Udp:")]
+    return [int(counts[there.index(it)]) for it in names]
 
 
 def new_socket():

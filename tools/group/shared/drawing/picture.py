@@ -8,8 +8,7 @@ from ..replica.datagram import text_of
 from . import svg
 from .layout import Layout
 from .legend import STYLE, legend, legend_height
-from .scene import HEARD, LATER, LOST
-from .scene import shown_characters
+from .scene import HEARD, LATER, LOST, shown_characters
 
 # How far from its sender the words of a message begin.
 LABEL_FROM = 13
