@@ -1,12 +1,14 @@
-"""A reader of code files, apart from the program's, as docs/FORMATS.md describes them, and records
-that are written by hand. Datagrams and records are read by tools/group/shared, and a
-datagram's names are here too."""
+"""A reader of code files, apart from the program's, as docs/FORMATS.md describes them, and records,
+ballots and values that are written by hand. Datagrams and records are read by tools/group/shared,
+and a datagram's names are here too."""
 
 import collections
 
 from shared.record import PLACES
 from shared.replica.datagram import Message, Refused, bytes_of, must, text_of
 from shared.replica.datagram import message_of as datagram
+
+from .files import number
 
 # Where a segment is in its file, its number, and how many procedures it has.
 Segment = collections.namedtuple("Segment", "begin length number count")
@@ -24,6 +26,19 @@ OLD_RECORD = bytes.fromhex("""
 OLD_LOG = bytes.fromhex("""
     50 4C 01 02 03 00 00 00 07  01  02 00 00 00 01 01
     03 00 00 00 00  00 00 00 01 01  01 02 00 00 00 01 00 00 00 01 48""")
+
+
+def ballot_bytes(ballot):
+    """A ballot as a record has it; zeros where there is none."""
+    return number(ballot.round) + number(ballot.node, 1) if ballot else bytes(5)
+
+
+def value_bytes(value):
+    """A value as a record has it."""
+    if value is None:
+        return bytes(1)
+    head = bytes([1, value.node]) + number(value.start) + number(value.first)
+    return head + bytes([len(value.characters)]) + value.characters
 
 
 def word(data, at):

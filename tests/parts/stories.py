@@ -14,6 +14,7 @@ from shared.replica.script import Event, text_of_script
 from .echo_code import ECHO
 from .files import number
 from .group import output_of
+from .readers import ballot_bytes, value_bytes
 
 # How a story goes: the share of deliveries that are lost and that come twice, of events that a save
 # fails in, and of turns in which a node is killed.
@@ -40,13 +41,6 @@ class Trace:
         return "".join(line + "\n" for line in lines)
 
 
-def value_bytes(value):
-    if value is None:
-        return bytes(1)
-    head = bytes([1, value.node]) + number(value.start, 4) + number(value.first, 4)
-    return head + bytes([len(value.characters)]) + value.characters
-
-
 def log_bytes(node, group):
     """A log with the record of a node, by hand."""
     stored = group.stored[node]
@@ -55,10 +49,9 @@ def log_bytes(node, group):
     log = b"PL" + bytes([2, node, group.size]) + number(group.session, 4) + b"\x01" * stored.starts
     votes = sorted(stored.votes.items(), key=lambda it: (it[1][0], it[0]))
     for place, (ballot, value) in votes:
-        under = number(ballot.round, 4) + number(ballot.node, 1)
-        log += b"\x03" + number(place, 4) + under + value_bytes(value)
+        log += b"\x03" + number(place, 4) + ballot_bytes(ballot) + value_bytes(value)
     if stored.promised is not None:
-        log += b"\x02" + number(stored.promised.round, 4) + number(stored.promised.node, 1)
+        log += b"\x02" + ballot_bytes(stored.promised)
     return log
 
 
