@@ -4,6 +4,7 @@ its settings before and after. tests/console and tests/group_scripts share it.""
 import fcntl
 import os
 import select
+import signal
 import subprocess
 import termios
 import time
@@ -12,8 +13,11 @@ from .program import Broken
 
 
 def take_terminal():
-    """Makes standard input the terminal of this process's session, so that Ctrl-C reaches it."""
+    """Makes standard input the terminal of this process's session, so that Ctrl-C reaches it, and
+    ends it: what was started in the background, as by ./test, would hand on that it ignores that."""
     fcntl.ioctl(0, termios.TIOCSCTTY, 0)
+    for number in (signal.SIGINT, signal.SIGQUIT):
+        signal.signal(number, signal.SIG_DFL)
 
 
 class Terminal:
