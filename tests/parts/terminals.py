@@ -14,7 +14,7 @@ from .program import Broken
 
 def take_terminal():
     """Makes standard input the terminal of this process's session, so that Ctrl-C reaches it, and
-    ends it: what was started in the background, as by ./test, would hand on that it ignores that."""
+    ends it. What is started in the background, as by ./test, would hand on that it ignores that."""
     fcntl.ioctl(0, termios.TIOCSCTTY, 0)
     for number in (signal.SIGINT, signal.SIGQUIT):
         signal.signal(number, signal.SIG_DFL)
