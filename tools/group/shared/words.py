@@ -6,6 +6,7 @@ import os
 import re
 import signal
 import socket
+import sys
 
 
 def address_of(text):
@@ -45,6 +46,22 @@ def ask(address, seconds=0.001):
         except socket.timeout:
             pass
     return False
+
+
+def put_out(text, path=None):
+    """Writes a text into a file, or to standard output, all of it now. A fault has its name, also
+    where it is full. Then standard output gets nothing more: Python would try again at the end."""
+    try:
+        if path:
+            with open(path, "w", encoding="utf-8") as file:
+                file.write(text)
+        else:
+            print(text, end="", flush=True)
+    except OSError as fault:
+        fault.filename = path or "standard output"
+        if not path:
+            os.dup2(os.open(os.devnull, os.O_WRONLY | os.O_CLOEXEC), 1)
+        raise
 
 
 def run_script(main):
