@@ -5,8 +5,7 @@ import errno
 import os
 import stat
 
-from .. import files
-from ..files import Refused
+from ..files import LASTING, Refused, text_of_fault
 from ..record import LOG_HEADER, RETIRED, Damaged, Reader, owner_of, read_record
 from ..watch import is_at, node_processes
 
@@ -172,7 +171,8 @@ class Target:
         put(self.path, self.data, self.like)
 
 
-def text_of_fault(fault):
+def text_with_help(fault):
     """What the system says of a fault, with the file's name, and what helps."""
-    full = ": make room there" if fault.errno == errno.ENOSPC else ""
-    return files.text_of_fault(fault) + full
+    room = ": make room there" if fault.errno == errno.ENOSPC else ""
+    first = "mend that, and " if fault.errno in LASTING else ""
+    return f"{text_of_fault(fault)}{room}; {first}call it again"
