@@ -1,5 +1,5 @@
 """The files that a supervisor is given: what of them is refused at once, and the lines that say
-so. `renew` refuses and tells faults in the same way."""
+so. Other scripts refuse and tell faults in the same way."""
 
 import errno
 import os
@@ -80,16 +80,21 @@ def check_session(words):
         )
 
 
+def check_runs(program):
+    """The program is there, and runs."""
+    if not (os.path.isfile(program) and os.access(program, os.X_OK)):
+        raise Refused(f"there is no program {program}")
+    # The repository's ./run may build it first, and says so.
+    done = subprocess.run([program, "--help"], check=False, **QUIET)
+    if done.returncode != 0:
+        raise Refused(f"{program} cannot be run")
+
+
 def check_program(words):
-    """The program is there, and takes FILE."""
-    if not (os.path.isfile(words.program) and os.access(words.program, os.X_OK)):
-        raise Refused(f"there is no program {words.program}")
+    """The program runs, and takes FILE."""
     if not os.path.isfile(words.file):
         raise Refused(f"there is no file {words.file}")
-    # The repository's ./run may build it first, and says so.
-    done = subprocess.run([words.program, "--help"], check=False, **QUIET)
-    if done.returncode != 0:
-        raise Refused(f"{words.program} cannot be run")
+    check_runs(words.program)
     check = [words.program, "check", words.file]
     done = subprocess.run(check, check=False, stdin=subprocess.DEVNULL, capture_output=True)
     if done.returncode != 0:

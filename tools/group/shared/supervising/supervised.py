@@ -11,7 +11,7 @@ TOP = os.path.join(SHARED, "..", "..", "..")
 
 
 def add_words(add):
-    program = os.environ.get("PGROUP", os.path.join(TOP, "run"))
+    program = os.environ.get("PGROUP") or os.path.join(TOP, "run")
     add("--file", metavar="FILE", required=True, help="the code file of the program")
     add("--id", metavar="N", type=int, required=True, help="the node's number")
     add("--size", metavar="N", type=int, required=True, help="how many nodes the group has")
