@@ -19,6 +19,12 @@ SCRIPTS = [*manual.SCRIPTS, "console"]
 # The compiler and the assembler: what is called, and the folders that they need.
 COMPILERS = ("assemble", "compile")
 COMPILER_FILES = ("assembler/**/*", "compiler/**/*", "pcode/**/*")
+# The pages and pictures, with all pages that they link to. Their other links, to sources, tests and
+# scripts, lead into the repository alone.
+PAGES = (
+    "README.md", "CHANGELOG.md", "docs/*.md", "docs/pictures/*.svg", "bench/RESULTS.md",
+    "tests/cases/README.md",
+)
 # The examples that need nothing else of the repository.
 EXAMPLES = (
     "*.code", "*.pas", "*.lst", "README.md", "assembly/*", "terminal/*", "group/*.script",
@@ -96,11 +102,8 @@ def put_docs(tree):
         with open(path, "rb") as file:
             packed = gzip.compress(file.read(), mtime=0)
         tree.write(f"share/man/man1/{os.path.basename(path)}.gz", packed)
-    for pattern in ("README.md", "CHANGELOG.md", "docs/*.md", "docs/pictures/*.svg"):
+    for pattern in (*PAGES, *(f"examples/{it}" for it in EXAMPLES)):
         for path in sorted(glob.glob(os.path.join(TOP, pattern))):
-            tree.copy(path, f"share/doc/pgroup/{os.path.relpath(path, TOP)}")
-    for pattern in EXAMPLES:
-        for path in sorted(glob.glob(os.path.join(TOP, "examples", pattern))):
             tree.copy(path, f"share/doc/pgroup/{os.path.relpath(path, TOP)}")
 
 
