@@ -11,7 +11,7 @@ import time
 
 from shared.nodes import TURNS, command_of, dropped_at
 from shared.record import Damaged, keys_in, read_head, read_record
-from shared.words import ask, text_of
+from shared.words import ask, text_of_address
 
 from .files import bytes_of
 from .program import PROGRAM, SCRIPTS, Broken
@@ -144,7 +144,7 @@ class Node(Running):
 
     def command(self, file, *more, turns=TURNS):
         """Returns the node's command line, with `more` words after its own."""
-        more = ("--keys", text_of(self.keys), *more)
+        more = ("--keys", text_of_address(self.keys), *more)
         return command_of(
             PROGRAM, file, self.number, self.session, self.record, self.addresses, *more,
             turns=turns,

@@ -5,7 +5,7 @@ and a datagram's names are here too."""
 import collections
 
 from shared.record import PLACES
-from shared.replica.datagram import Message, Refused, bytes_of, must, text_of
+from shared.replica.datagram import Message, Refused, bytes_of, must, text_of_message
 from shared.replica.datagram import message_of as datagram
 
 from .files import number

@@ -5,7 +5,7 @@ import re
 import subprocess
 
 from shared.nodes import children_of, dropped_at, free_addresses
-from shared.words import text_of
+from shared.words import text_of_address
 
 from .echo_code import ECHO
 from .files import bytes_of, file_with
@@ -42,9 +42,9 @@ class Supervised(Running):
         lines = f"--file {ECHO}  # the echo\n--id {number} --size {len(nodes)}\n"
         lines += f"--session {session_of(ECHO)} --silent {silent}\n--program {PROGRAM}\n"
         lines += f"--record {self.record}\n--console {self.console}\n"
-        lines += f"--nodes {' '.join(text_of(it) for it in nodes)}\n"
-        lines += f"--beats {' '.join(text_of(it) for it in beats)}\n"
-        lines += f"--keys {text_of(keys)}\n"
+        lines += f"--nodes {' '.join(text_of_address(it) for it in nodes)}\n"
+        lines += f"--beats {' '.join(text_of_address(it) for it in beats)}\n"
+        lines += f"--keys {text_of_address(keys)}\n"
         self.words = "@" + file_with(folder, f"words{number}", lines.encode())
 
     def run(self, *more):

@@ -11,7 +11,7 @@ import time
 
 from shared.nodes import TURNS, command_of
 from shared.record import Ballot, Batch, Record, record_of
-from shared.words import text_of
+from shared.words import text_of_address
 
 from .. import readers
 from ..files import bytes_of
@@ -214,7 +214,7 @@ class Bench:
     def start(self, case, plan, more, turns, keys):
         """Starts the node of a case over the record that is there."""
         if more[-1:] == ["--keys"]:
-            more = [*more, text_of(self.keys)]
+            more = [*more, text_of_address(self.keys)]
         addresses = [it.getsockname() for it in self.sockets[: case.size - 1]]
         addresses.insert(case.node - 1, self.own)
         words = command_of(

@@ -9,7 +9,7 @@ import time
 from shared.nodes import free_addresses, is_empty_at
 from shared.record import PLACES, read_head, read_record
 from shared.watch import Whole
-from shared.words import text_of
+from shared.words import text_of_address
 
 from ..checks import expect
 from ..echo_code import ECHO, endless_in
@@ -288,7 +288,7 @@ def check_attached(folder):
             start_all(group)
             node = group.nodes[1]
             if terminal is None:
-                words = [path_of("attach"), "--lf", text_of(node.keys), node.console]
+                words = [path_of("attach"), "--lf", text_of_address(node.keys), node.console]
                 terminal = Terminal(words)
                 terminal.await_ready()
             line = b"in session %d\n" % session

@@ -5,7 +5,7 @@ import os
 import random
 import socket
 
-from .words import text_of
+from .words import text_of_address
 
 # The greatest number of turns: a node that is to run until it is ended.
 TURNS = 4294967295
@@ -15,7 +15,7 @@ def command_of(program, file, node, session, record, addresses, *more, turns=TUR
     """Returns the command line of a node. `addresses` has the address of each node of the group,
     and `more` the words after them."""
     words = [program, "node", file, node, len(addresses), session, record, turns]
-    return [str(it) for it in [*words, *map(text_of, addresses), *more]]
+    return [str(it) for it in [*words, *map(text_of_address, addresses), *more]]
 
 
 def free_addresses(count):

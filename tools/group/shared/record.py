@@ -66,7 +66,7 @@ def keys_in(value):
 def ballot_of(reader, size):
     ballot = Ballot(reader.number(4), reader.number(1))
     is_one = ballot.round >= 1 and 1 <= ballot.node <= size
-    must(is_one, f"{text_of(ballot)} is no ballot of {size} nodes")
+    must(is_one, f"{text_of_ballot(ballot)} is no ballot of {size} nodes")
     return ballot
 
 
@@ -101,7 +101,8 @@ def votes_of(reader, version, size, promised):
         must(last < place < PLACES, f"a vote at place {place} after one at place {last}")
         ballot = ballot_of(reader, size)
         is_promised = promised is not None and ballot <= promised
-        must(is_promised, f"a vote under {text_of(ballot)}, and promised is {text_of(promised)}")
+        under, other = text_of_ballot(ballot), text_of_ballot(promised)
+        must(is_promised, f"a vote under {under}, and promised is {other}")
         votes[place] = (ballot, value_of(reader, version, size))
         last = place
     return votes
@@ -156,7 +157,8 @@ def with_entry(record, tag, place, ballot, value):
         must(record.starts < LAST_START, f"a start after {LAST_START}")
         return record._replace(starts=record.starts + 1)
     is_below = record.promised is not None and ballot < record.promised
-    must(not is_below, f"an entry under {text_of(ballot)} after {text_of(record.promised)}")
+    under, before = text_of_ballot(ballot), text_of_ballot(record.promised)
+    must(not is_below, f"an entry under {under} after {before}")
     if tag == VOTE:
         record.votes[place] = (ballot, value)
     return record._replace(promised=ballot)
@@ -261,7 +263,7 @@ def read_head(path):
     return Head(path).read()
 
 
-def text_of(ballot):
+def text_of_ballot(ballot):
     return "-" if ballot is None else f"{ballot.round}.{ballot.node}"
 
 

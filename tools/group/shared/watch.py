@@ -7,8 +7,8 @@ import stat
 from .codes import with_sentence
 from .ends import Log
 from .nodes import stat_of
-from .record import PLACES, Damaged, Head, places_of, read_record, record_of, text_of
-from .words import text_of as text_of_address
+from .record import PLACES, Damaged, Head, places_of, read_record, record_of, text_of_ballot
+from .words import text_of_address
 
 # How many bytes of a console's end are read.
 END = 8192
@@ -227,7 +227,9 @@ class Group:
         what = "session" if len(sessions) < 2 else "different sessions"
         names = ", ".join(str(it) for it in sessions)
         majority = "a majority" if 2 * up > size else "no majority"
-        who = f"node {leader.node} leads, ballot {text_of(leader)}" if leader else "nobody leads"
+        who = "nobody leads"
+        if leader:
+            who = f"node {leader.node} leads, ballot {text_of_ballot(leader)}"
         return f"{what} {names}: {up} of {size} nodes run here, {majority}; {who}"
 
 
@@ -244,6 +246,6 @@ def line_of(node, leader):
     if it is None:
         return f"{node.path}: {node.fault}; its node {process}"
     return (
-        f"node {it.node} {process}; starts {it.starts} promised {text_of(it.promised)} "
+        f"node {it.node} {process}; starts {it.starts} promised {text_of_ballot(it.promised)} "
         f"places {places_of(it)}"
     )

@@ -18,7 +18,7 @@ def address_of(text):
     return ".".join(str(it) for it in numbers), int(match[2])
 
 
-def text_of(address):
+def text_of_address(address):
     return f"{address[0]}:{address[1]}"
 
 

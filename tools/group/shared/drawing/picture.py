@@ -4,7 +4,7 @@ node, time from left to right."""
 import datetime
 import math
 
-from ..replica.datagram import text_of
+from ..replica.datagram import text_of_message
 from . import svg
 from .layout import Layout
 from .legend import STYLE, legend, legend_height
@@ -166,7 +166,7 @@ class Picture:
         names = f"m {arrow.message.kind} s{self.strength(arrow)}"
         about = ""
         if self.at.is_detailed:
-            first = text_of(arrow.message).split("\n")[0]
+            first = text_of_message(arrow.message).split("\n")[0]
             heard = f"heard by {arrow.to}" if arrow.fate == HEARD else f"{arrow.fate} to {arrow.to}"
             about = svg.title(f"message {arrow.number}: {first}; {heard}")
         if arrow.to == arrow.message.sender:

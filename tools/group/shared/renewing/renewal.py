@@ -7,7 +7,7 @@ the greatest ballot that a majority reports, and the records are read by this ru
 
 import collections
 
-from ..record import PLACES, keys_in, text_of
+from ..record import PLACES, keys_in, text_of_ballot
 
 # What was read: the characters in order; at how many places; how many keys were chosen again; and
 # how many stand above the first place without a vote.
@@ -48,7 +48,7 @@ def value_at(records, place):
         if vote[0] == ballot and vote[1] != value:
             raise Unfit(
                 f"{path} and {other} have different values at place {place} under ballot "
-                f"{text_of(ballot)}: one is damaged, or there were two nodes of one number"
+                f"{text_of_ballot(ballot)}: one is damaged, or there were two nodes of one number"
             )
     return [value]
 

@@ -177,7 +177,7 @@ def shown(name, field):
     return f"votes {len(field)}" if name == "votes" else f"{name} {field}"
 
 
-def text_of(message):
+def text_of_message(message):
     """The lines that `show` prints for a message."""
     fields = [shown(*it) for it in message.fields.items()]
     lines = [" ".join([message.kind, f"from {message.sender}", *fields])]

@@ -140,10 +140,10 @@ def text_of_first(replay, words, good, bad):
     step, (name, one, other) = replay.steps[bad - 1], differs_after(replay, words, bad)
     where = f"line {step.call.at} of the trace" if step.call else "the end of a process"
     return (f"line {bad + 1} of the script, {where} of node {step.event.node}: {name} is "
-            f"{text_of(one)} by the traces, and {text_of(other)} by sim")
+            f"{text_of_shown(one)} by the traces, and {text_of_shown(other)} by sim")
 
 
-def text_of(value):
+def text_of_shown(value):
     if isinstance(value, bytes):
         text = value[-40:].hex().upper() or "-"
         return f"..{text} ({len(value)} bytes)" if len(value) > 40 else text

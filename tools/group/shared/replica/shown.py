@@ -4,7 +4,7 @@ program."""
 import collections
 import subprocess
 
-from ..record import text_of
+from ..record import text_of_ballot
 from .datagram import value_text
 
 # The line of a node, its console as bytes; and all that a `show` prints.
@@ -62,7 +62,7 @@ def known_of(group, consoles):
     nodes, places = {}, {}
     for number, node in group.nodes.items():
         front = "-" if node is None else str(node.learner.front)
-        promised = text_of(group.stored[number].promised)
+        promised = text_of_ballot(group.stored[number].promised)
         nodes[number] = NodeLine(node is not None, front, promised, consoles[number])
         if node is not None:
             places.update((at, value_text(it)) for at, it in node.learner.learned.items())

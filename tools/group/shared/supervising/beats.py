@@ -8,7 +8,7 @@ import time
 
 from ..files import Refused
 from ..record import Ballot
-from ..words import text_of
+from ..words import text_of_address
 from .office import Beat
 
 # pgroup beat SESSION NODE ROUND NODE AGE LED HEARS: a ballot of round 0 is none, LED is 0 or 1, and
@@ -50,10 +50,10 @@ class Beats:
         try:
             self.socket.bind(address)
         except OSError as fault:
+            where = f"heartbeats at {text_of_address(address)}"
             if fault.errno == errno.EADDRINUSE:
-                text = f"heartbeats at {text_of(address)}: {fault.strerror}; is a supervisor there?"
-                raise Refused(text)
-            return f"heartbeats at {text_of(address)}: {text_of_address_fault(fault)}"
+                raise Refused(f"{where}: {fault.strerror}; is a supervisor there?")
+            return f"{where}: {text_of_address_fault(fault)}"
         return None
 
     def send(self, beat):

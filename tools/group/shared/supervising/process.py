@@ -15,7 +15,7 @@ from ..files import (
     Refused, check_session, open_console, promised_of, refuse_lasting, say, text_of_fault,
 )
 from ..nodes import command_of, stat_of
-from ..words import text_of
+from ..words import text_of_address
 from .beats import text_of_address_fault
 from .speech import Speech, is_log_asked
 from .unsaved import why_unsaved
@@ -70,13 +70,13 @@ class Node:
                     probe.bind(address)
                 except OSError as fault:
                     why = text_of_address_fault(fault)
-                    self.tell(f"waits for {text_of(address)}: {why}; it is tried again")
+                    self.tell(f"waits for {text_of_address(address)}: {why}; it is tried again")
                     return False
         return True
 
     def command(self, seen):
         words = self.words
-        rest = ["--keys", text_of(words.keys), "--seen", seen]
+        rest = ["--keys", text_of_address(words.keys), "--seen", seen]
         place = (words.file, words.id, words.session, words.record)
         return command_of(words.program, *place, words.nodes, *rest)
 
