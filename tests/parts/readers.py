@@ -5,7 +5,7 @@ and a datagram's names are here too."""
 import collections
 
 from shared.record import PLACES
-from shared.replica.datagram import Message, Refused, bytes_of, must, text_of_message
+from shared.replica.datagram import BytesRefused, Message, bytes_of, refuse_unless, text_of_message
 from shared.replica.datagram import message_of as datagram
 
 from .files import number
@@ -48,17 +48,17 @@ def word(data, at):
 
 def segment_of(data):
     """Where the segment is, by block 0."""
-    must(len(data) >= 512, "F1")
+    refuse_unless(len(data) >= 512, "F1")
     entries = [it for it in range(16) if word(data, 4 * it + 2)]
-    must(entries, "F2")
-    must(len(entries) == 1, "F3")
+    refuse_unless(entries, "F2")
+    refuse_unless(len(entries) == 1, "F3")
     entry, = entries
-    must(word(data, 192 + 2 * entry) == 0, "F4")
+    refuse_unless(word(data, 192 + 2 * entry) == 0, "F4")
     block, length = word(data, 4 * entry), word(data, 4 * entry + 2)
-    must(block and 512 * block + length <= len(data), "F5")
-    must(length % 2 == 0, "F10 procedure 0")
+    refuse_unless(block and 512 * block + length <= len(data), "F5")
+    refuse_unless(length % 2 == 0, "F10 procedure 0")
     number, count = data[512 * block + length - 2], data[512 * block + length - 1]
-    must(count and 2 + 2 * count <= length, "F6")
+    refuse_unless(count and 2 + 2 * count <= length, "F6")
     return Segment(512 * block, length, number, count)
 
 
@@ -67,12 +67,13 @@ def table_of(code, end, number):
     dictionary begins."""
     at = len(code) - 2 - 2 * number
     jtab = at - word(code, at)
-    must(jtab % 2 == 0 and 8 <= jtab <= end - 2, f"F7 procedure {number}")
-    must(code[jtab], f"F8 procedure {number}")
-    must(code[jtab] == number, f"F7 procedure {number}")
+    refuse_unless(jtab % 2 == 0 and 8 <= jtab <= end - 2, f"F7 procedure {number}")
+    refuse_unless(code[jtab], f"F8 procedure {number}")
+    refuse_unless(code[jtab] == number, f"F7 procedure {number}")
     level = code[jtab + 1]
-    must(level == 0 if number == 1 else 1 <= level <= 127, f"F9 procedure {number}")
-    must(word(code, jtab - 6) % 2 == 0 and word(code, jtab - 8) % 2 == 0, f"F10 procedure {number}")
+    refuse_unless(level == 0 if number == 1 else 1 <= level <= 127, f"F9 procedure {number}")
+    sizes = word(code, jtab - 6), word(code, jtab - 8)
+    refuse_unless(all(it % 2 == 0 for it in sizes), f"F10 procedure {number}")
     return jtab
 
 
@@ -81,11 +82,11 @@ def check_part(code, tables, number):
     jtab = tables[number - 1]
     low = max((it + 2 for it in tables if it < jtab), default=0)
     inside = [low <= at - word(code, at) < jtab - 8 for at in (jtab - 2, jtab - 4)]
-    must(low <= jtab - 8 and all(inside), f"F7 procedure {number}")
+    refuse_unless(low <= jtab - 8 and all(inside), f"F7 procedure {number}")
 
 
 def code_file(data):
-    """The segment of a code file, or Refused with F1 to F10."""
+    """The segment of a code file, or BytesRefused with F1 to F10."""
     segment = segment_of(data)
     code = data[segment.begin : segment.begin + segment.length]
     numbers = range(1, segment.count + 1)

@@ -19,13 +19,14 @@ def kind_of(data):
     return KINDS[number - 1] if 1 <= number <= len(KINDS) else None
 
 
-class Refused(Exception):
-    """The code of the first check that fails, as the command prints it."""
+class BytesRefused(Exception):
+    """Bytes that are no datagram, or no code file: the code of the first check that fails, as the
+    command prints it."""
 
 
-def must(holds, code):
+def refuse_unless(holds, code):
     if not holds:
-        raise Refused(code)
+        raise BytesRefused(code)
 
 
 class Reader:
@@ -37,7 +38,7 @@ class Reader:
 
     def take(self, length):
         taken = self.data[self.at : self.at + length]
-        must(len(taken) == length, "G1")
+        refuse_unless(len(taken) == length, "G1")
         self.at += length
         return taken
 
@@ -46,38 +47,38 @@ class Reader:
 
     def ballot(self, is_senders=False):
         round_ = self.number(4)
-        must(round_, "G7")
+        refuse_unless(round_, "G7")
         node = self.number(1)
-        must(1 <= node <= self.size, "G7")
-        must(not is_senders or node == self.sender, "G7")
+        refuse_unless(1 <= node <= self.size, "G7")
+        refuse_unless(not is_senders or node == self.sender, "G7")
         return Ballot(round_, node)
 
     def place(self, most=PLACES - 1):
         place = self.number(4)
-        must(place <= most, "G8")
+        refuse_unless(place <= most, "G8")
         return place
 
     def value(self, is_submitted=False):
         tag = self.number(1)
-        must(tag == 1 or tag == 0 and not is_submitted, "G9")
+        refuse_unless(tag == 1 or tag == 0 and not is_submitted, "G9")
         if tag == 0:
             return None
         node = self.number(1)
-        must(1 <= node <= self.size and (not is_submitted or node == self.sender), "G9")
+        refuse_unless(1 <= node <= self.size and (not is_submitted or node == self.sender), "G9")
         start = self.number(4)
-        must(start, "G9")
+        refuse_unless(start, "G9")
         first, count = self.number(4), self.number(1)
-        must(first and 1 <= count <= MOST_KEYS and first + count - 1 <= LAST_SERIAL, "G9")
+        refuse_unless(first and 1 <= count <= MOST_KEYS and first + count - 1 <= LAST_SERIAL, "G9")
         return Batch(node, start, first, self.take(count))
 
     def votes(self, count, ballot, first, upto):
         votes, last = [], -1
         for _ in range(count):
             place = self.number(4)
-            must(place > last, "G10")
-            must(first <= place < upto, "G8")
+            refuse_unless(place > last, "G10")
+            refuse_unless(first <= place < upto, "G8")
             under = self.ballot()
-            must(under <= ballot, "G7")
+            refuse_unless(under <= ballot, "G7")
             votes.append((place, under, self.value()))
             last = place
         return votes
@@ -87,16 +88,16 @@ def promise_of(reader):
     ballot = reader.ballot()
     first = reader.place()
     upto = reader.place(PLACES)
-    must(first < upto, "G8")
+    refuse_unless(first < upto, "G8")
     count = reader.number(1)
-    must(count <= MOST_VOTES, "G11")
+    refuse_unless(count <= MOST_VOTES, "G11")
     votes = reader.votes(count, ballot, first, upto)
     return {"ballot": ballot, "first": first, "upto": upto, "votes": votes}
 
 
 def refusal_of(reader):
     ballot, promised = reader.ballot(), reader.ballot()
-    must(promised > ballot, "G7")
+    refuse_unless(promised > ballot, "G7")
     return {"ballot": ballot, "promised": promised}
 
 
@@ -117,18 +118,18 @@ def fields_of(reader, kind):
 
 
 def message_of(data, size, session):
-    """The message of a datagram in a group, or Refused with G1 to G12."""
-    must(len(data) >= 10, "G1")
-    must(data[:2] == b"PG", "G2")
-    must(data[2] == 2, "G3")
+    """The message of a datagram in a group, or BytesRefused with G1 to G12."""
+    refuse_unless(len(data) >= 10, "G1")
+    refuse_unless(data[:2] == b"PG", "G2")
+    refuse_unless(data[2] == 2, "G3")
     kind = kind_of(data)
-    must(kind, "G4")
-    must(data[5] == size and data[6:10] == session.to_bytes(4, "big"), "G5")
-    must(1 <= data[4] <= size, "G6")
+    refuse_unless(kind, "G4")
+    refuse_unless(data[5] == size and data[6:10] == session.to_bytes(4, "big"), "G5")
+    refuse_unless(1 <= data[4] <= size, "G6")
     reader = Reader(data, size)
     reader.at, reader.sender = 10, data[4]
     message = Message(kind, data[4], fields_of(reader, kind))
-    must(reader.at == len(data), "G12")
+    refuse_unless(reader.at == len(data), "G12")
     return message
 
 
