@@ -1,8 +1,8 @@
 -- Calls of a node, one after the other: their deeds, and what it was prompted to do.
-use Rattle.std.proofs.Common.{◌≡◌, ◌≢◌, ◌∙◌, zero-add, ◌⊎◌, inl, inr, Bool, ℕ, ◌+◌, ◌<◌, ◌≤◌, List, [], ◌∷◌, ◌++◌, drop, length, take, map, Option, Some, None, Result, Ok, Err, refl, sym, ap, arith, append_assoc, append-nil}
-use Rattle.std.proofs.Math.Seq.{take-append_seam}
+use Rattle.std.proofs.Common.{◌≡◌, ◌≢◌, ◌∙◌, zero-add, ◌⊎◌, inl, inr, Bool, ℕ, ◌+◌, ◌<◌, ◌≤◌, List, [], ◌∷◌, ◌++◌, drop, length, min, take, map, Option, Some, None, option_map, IfSome, Result, Ok, Err, refl, sym, ap, arith, append_assoc, append-nil}
+use Rattle.std.proofs.Math.Seq.{drop-append_seam, take-append_seam}
 use Rattle.std.proofs.lemmas.Grind.{common_steps, flat_map-append}
-use Rattle.std.proofs.lemmas.List.{length-append, take-append-drop}
+use Rattle.std.proofs.lemmas.List.{drop_all, length-append, take-append-drop}
 use Rattle.std.proofs.lemmas.List.Elements.{filter-append}
 use Rattle.group_node.specs.Deeds.{Deed, Press, Run}
 use Rattle.group_node.specs.States.{NodeState}
@@ -14,6 +14,7 @@ use Rattle.group_udp.specs.declared.fault.GroupFault.TheVariants as group
 use Rattle.node_run.specs.Going.{Around, CampaignsIf, FailsAt, HasEnded, HasGone, HasGoneOn, HasReason, around, planned}
 use Rattle.group_udp.specs.Refusals.{IsCampaignRefusal}
 use Rattle.group_udp.specs.Prompts.{Remaining, before_gift, byte_in, campaigns_in, bytes_in, with_gift}
+use Rattle.node_run.specs.Answering.{left_once_given}
 use Rattle.node_run.specs.Prompted.{IsPrompted, turns_in}
 
 -- ---- what a keyboard has left
@@ -68,6 +69,17 @@ gift_front n all front others back long is left =
     let whole : all ≡ take n (front ++ others) ++ back =
     grind (arith, common_steps, take-append_seam front others, take-append-drop n all, long, is, left) in
     rw (typed, no_campaign, ← whole)
+
+-- what is left once all was given for which there was room
+pub left_given : (room n : ℕ) (given : List ℕ) (old new : Option Remaining) → old ≡ with_gift (map Press given) new
+    → length given ≡ n → IfSome old (λ left. n ≡ min (length left.bytes) room) → new ≡ option_map (left_once_given room) old
+left_given room n given None None is long all = refl
+left_given room n given None (Some l) is long all = absurd cc
+left_given room n given (Some left) None is long all = absurd cc
+left_given room n given (Some left) (Some l) is long all =
+    let (typed, no_campaign, _) = pressed given in
+    ap (λ x. Some x) (same_left l (left_once_given room left)
+    (grind (arith, common_steps, typed, drop_all, drop-append_seam given l.bytes)) (grind (arith, no_campaign)))
 
 -- bytes that are typed, and others that are lost
 pub prompted_lost : {spent : Type 0} (typed lost : List ℕ) → (¬ spent → lost ≡ [])

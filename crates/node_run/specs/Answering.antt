@@ -1,7 +1,8 @@
 -- What happens at a node's keyboard before a turn.
-use Rattle.std.specs.Prelude.{◌≡◌, ◌≢◌, ◌<◌, ℕ, true, All, List, [], ◌∷◌, ◌++◌, map, Option, Result, Ok, Err}
+use Rattle.std.specs.Prelude.{◌≡◌, ◌≢◌, ◌<◌, ℕ, true, All, List, [], ◌∷◌, ◌++◌, map, Option, Result, Ok, Err, ◌-◌, drop, length, nat_lt, if◌then◌else◌}
 use Rattle.paxos_acceptor.specs.Stores.{StoreKind}
 use Rattle.group_protocol.specs.declared.fault.NodeFault.TheVariants.{SerialSpent, Stopped, Store}
+use Rattle.group_protocol.specs.declared.limits.TheConstants.{MOST_WAITING}
 use Rattle.group_node.specs.Deeds.{Campaign, Press}
 use Rattle.group_protocol.specs.Known.{Known, front}
 use Rattle.group_protocol.specs.ProposerRows.{is_leading}
@@ -32,6 +33,22 @@ HasTypedGiven old new from to (Err e) =
     (typed lost : List ℕ) × (e ≡ group.Node SerialSpent)
     × (from ≡ with_gift (map Press (typed ++ lost)) to) × HasReason e new.protocol.known
     × ((passed : Option Traffic) → HasActed old new passed passed (map Press typed))
+
+-- What a keyboard has left that gave as many bytes as there was room for.
+abbrev pub left_once_given : ℕ → Remaining → Remaining
+left_once_given room left = record left { bytes = drop room left.bytes }
+
+-- What a keyboard has left that was answered: a request fewer, if one was there, or else the bytes
+-- for which there was no room.
+-- Forbids: a request or a byte that is passed over.
+abbrev pub left_once_answered : ℕ → Remaining → Remaining
+left_once_answered room left =
+    if nat_lt 0 left.requests then record left { requests = left.requests - 1 }
+    else left_once_given room left
+
+-- How many keys a node has room for.
+abbrev pub room_of : {S : Type 0} → NodeState S → ℕ
+room_of n = MOST_WAITING - length n.protocol.known.waiting
 
 -- A campaign that was asked for, and its answer. Exactly a node that leads without a gap
 -- ignores it.
