@@ -10,12 +10,14 @@ always=4294967295
 declare -A nodes=()
 
 # free_ports COUNT: prints COUNT UDP ports of 127.0.0.1 that nobody has bound, one a line. They are
-# below the range from which the system gives ports to those that ask for any.
+# from the first to the last of PGROUP_PORTS, such as 20000-25999, which the gate gives its scripts;
+# or else below the range from which the system gives ports to those that ask for any.
 free_ports() {
-  local taken port found=0
+  local taken port first last found=0
+  IFS=- read -r first last <<< "${PGROUP_PORTS:-20000-31999}"
   taken=$(< /proc/net/udp)
   while [ "$found" -lt "$1" ]; do
-    port=$((20000 + RANDOM % 12000))
+    port=$((first + RANDOM % (last - first + 1)))
     if [[ $taken != *"$(printf ':%04X ' "$port")"* ]]; then
       taken+=$(printf ':%04X ' "$port")
       found=$((found + 1))
