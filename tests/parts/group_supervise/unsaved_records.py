@@ -6,7 +6,7 @@ import subprocess
 
 from shared.supervising.unsaved import why_unsaved
 
-from ..checks import expect
+from ..checks import expect, passed
 from ..files import file_with
 from ..group import await_that
 from ..program import SCRIPTS, Broken
@@ -112,6 +112,6 @@ def check_node_on(small, folder, full):
         it.await_said(rf"ended with status 1, refused D2: [^\n]* \({full}\); the node is started")
         os.remove(f"/proc/{it.process.pid}/root{small}/filler")
         await_that(it.is_up, "the node is up")
-        expect("a node on a full disk: the disk is named, and it runs when there is room", True)
+        passed("a node on a full disk: the disk is named, and it runs when there is room")
     finally:
         it.end()
