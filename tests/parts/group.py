@@ -210,6 +210,15 @@ class Piped(Node):
             )
         os.set_blocking(self.process.stdout.fileno(), False)
 
+    def read(self):
+        """Returns what it shows next, of which there has to be some, or its end. Raises Broken with
+        what the node said if that is the end."""
+        data = os.read(self.process.stdout.fileno(), 65536)
+        if not data:
+            self.process.wait()
+            self.check()
+        return data
+
 
 class Group:
     """Nodes on one machine, a text that is typed at them, and what happened so far."""
