@@ -119,28 +119,27 @@ def new_socket():
 
 @dataclasses.dataclass
 class Loss:
-    """Datagrams that are lost: of those from one node to another that are of this kind (of any if
-    it is None) and have these bytes at their end, so many from the `first` from now on."""
+    """Datagrams that are lost: of those from one node to another that are of this kind and have
+    these bytes at their end, the first so many from now on."""
 
     sender: int
     receiver: int
     kind: str
     end: bytes = b""
-    first: int = 1
     count: int = 1
     seen: int = 0
 
     def is_met(self, pair, data):
         """Returns true if a datagram is lost. Each has to be shown to it."""
         is_between = pair == (self.sender, self.receiver)
-        if not is_between or self.kind not in (None, kind_of(data)) or not data.endswith(self.end):
+        if not is_between or self.kind != kind_of(data) or not data.endswith(self.end):
             return False
         self.seen += 1
-        return self.first <= self.seen < self.first + self.count
+        return self.seen <= self.count
 
     def has_come(self):
         """Returns true if a datagram was lost."""
-        return self.seen >= self.first
+        return self.seen > 0
 
 
 class SlowNetwork(Network):
