@@ -136,7 +136,8 @@ impl<'a, H: Clock, E: Write> Log<'a, H, E> {
         }
     }
 
-    /// Returns true if a second has passed since counted datagrams were last noted.
+    /// Returns true if a second has passed since counted datagrams were last noted: then they are
+    /// noted now.
     fn is_due(&mut self) -> bool {
         let Ok(now) = Instant::now(self.clock) else {
             return false;

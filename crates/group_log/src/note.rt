@@ -62,7 +62,8 @@ pub enum Note<'a> {
     Full(usize),
     /// So many places are learned, from place 0 on.
     Places(u32),
-    /// A line of its trace cannot be written, and none is from then on.
+    /// A line of its trace cannot be written, or the record could not be read for it. No line is
+    /// written from then on.
     TraceLost,
     /// Its program has ended. The node goes on, and reads no more keys.
     Program(End),

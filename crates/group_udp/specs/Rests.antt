@@ -67,8 +67,9 @@ abbrev pub IsCutShort : Option Instant → Option Instant → ℕ → Option Ins
 IsCutShort until from millis cut =
     (latest : Option Instant) × IsLater from millis latest × (cut ≡ earlier until latest)
 
--- A rest once something but an Ask is sent in it, first now. If nothing such was sent before the
--- rest, it ends after the first pause at the latest, and the time to learn a place counts from now.
+-- A rest once something but an Ask is sent in it, first now, or first since a place was learned in
+-- it. If nothing such was sent before the rest, it ends after the first pause at the latest, and
+-- the time to learn a place counts from now.
 -- Allows: no other end, where something was sent before.
 pub record NotesSent (old : Rest) (now : Option Instant) (new : Rest) : Type 0 where
   pub rest : new ≡ record old { has_sent = true; until = new.until; since = new.since }

@@ -16,8 +16,8 @@ pub fn sources_are_senders()
         → (IsFromSender at source bytes ↔ (slice_get at i ≡ Some source)) }
 {}
 
-/// A rest takes 10 to 200 milliseconds, whatever a node has learned and sent, and so does the first
-/// pause between repeats.
+/// Unless something ends it early, a rest takes 10 to 200 milliseconds, whatever a node has learned
+/// and sent, and so does the first pause between repeats.
 pub fn rests_are_short()
     ensures first { IsPace first_pace }
     ensures next { (pace : Pace) (learned : Option ℕ) (has_sent : Bool) → IsPace pace

@@ -20,7 +20,8 @@ pub struct Rest {
     /// True if anything but Asks was sent since then, and since a place was learned in it.
     has_sent: bool,
     /// From when on the time to learn a place counts: the begin of the rest, if anything but Asks
-    /// was sent before it, or else the first such sending in it.
+    /// was sent before it, or else the first such sending in it, or since a place was learned
+    /// there.
     since: Option<Instant>,
 }
 
@@ -114,9 +115,9 @@ impl Rest {
         };
     }
 
-    /// Notes that the node sends something but an Ask now, the first such datagram of the rest. If
-    /// none was sent before the rest either, it ends soon, since what is sent may be lost
-    /// (`NotesSent`).
+    /// Notes that the node sends something but an Ask now, the first such datagram of the rest, or
+    /// since a place was learned in it. If none was sent before the rest either, it ends soon,
+    /// since what is sent may be lost (`NotesSent`).
     pub fn note_sent(&mut self, now: Option<Instant>)
         requires unsent { self.old.has_sent ≡ false }
         ensures { NotesSent self.old now self.new }

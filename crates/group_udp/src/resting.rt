@@ -44,7 +44,7 @@ pub trait CountedWire: RestingWire {
     /// Returns the number of datagrams that were sent to other nodes since then.
     fn sends(&self) -> Sends;
 
-    /// Returns true if the trace of the node cannot be written any more, the first time after that.
+    /// Returns true if no line of the node's trace is written any more, the first time after that.
     fn take_trace_loss(&mut self) -> bool
         ensures passed { Self.traffic self.new ≡ Self.traffic self.old };
 

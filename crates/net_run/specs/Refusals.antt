@@ -33,7 +33,7 @@ IsNetRefusal e = IsOpenRefusal e ⊎ (e ≡ group.Node fault.Size) ⊎ (e ≡ gr
     ⊎ (e ≡ group.Node Stopped) ⊎ IsRunRefusal e
 
 -- Why the code file of such a group, or its input, is refused: the file is, or a read of the input
--- fails.
+-- fails, or it is too long.
 abbrev pub IsFileOrInputRefusal : GroupFault → Type 0
 IsFileOrInputRefusal e =
     ((refusal : MachineRefusal) × IsFileRefusal refusal × (e ≡ group.Machine refusal))

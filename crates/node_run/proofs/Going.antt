@@ -172,9 +172,10 @@ is_store e = inr (λ is. absurd cc)
 pub played_ended : {S : Type 0} (laws : GoOn S) {old mid new : NodeState S} {from via to : Around} {made turns : ℕ} {e : GroupFault}
     → made < turns → HasGoneOn [] old mid from via made → HasGone {T = Unit {0}} [] mid new via to 1 (Err e)
     → HasGone {T = Unit {0}} [] old new from to turns (Err e)
-played_ended laws {made = made} more before (none, is, done, few, h) =
-    let same : none ≡ [] = elim is [ inl is ↦ is | inr other ↦ other.0 ] in
-    ([], inl refl, made + done, omega (arith, more, few), ended_then laws before (rw same at h))
+played_ended laws {made = made} more before h = inl (elim h [
+  | inl k ↦ (made + k.0, omega (arith, more, k.1), ended_then laws before k.2)
+  | inr k ↦ (made + 0, omega (arith, more), ended_then laws before k.2)
+])
 
 -- a refusal that no save caused ends what was done
 pub gone_ended : {S : Type 0} {first : List Deed} {old new : NodeState S} {from to : Around} {turns : ℕ} {e : GroupFault}
@@ -189,21 +190,17 @@ pub begun_by : {S : Type 0} (laws : GoOn S) {old mid : NodeState S} {t u : Optio
     (keys : Option Remaining) (to : Around) (turns : ℕ) (result : Result (Unit {0}) GroupFault) → HasActed old mid t u first
     → HasGone [] mid new (around u keys) to turns result → HasGone first old new (around t keys) to turns result
 begun_by laws new keys to turns (Ok x) begun h = rw zero-add at (gone_then laws (gone_unprompted begun refl) h)
-begun_by laws {first = first} new keys to turns (Err e) begun (none, is, done, few, h) =
-    let same : none ≡ [] = elim is [ inl is ↦ is | inr other ↦ other.0 ] in
-    (first, inl refl, done, few, rw zero-add at (ended_then laws (gone_unprompted begun refl) (rw same at h)))
+begun_by laws new keys to turns (Err e) begun h = inl (elim h [
+  | inl k ↦ (k.0, k.1, rw zero-add at (ended_then laws (gone_unprompted begun refl) k.2))
+  | inr k ↦ (0, omega arith, ended_then laws (gone_unprompted begun refl) k.2)
+])
 
 -- a campaign of the plan that was refused
 pub campaign_refused : {S : Type 0} {old new : NodeState S} {t u : Option Traffic} {keys : Option Remaining} {asked : Bool} {turns : ℕ}
     {e : GroupFault} → CampaignsIf asked old new t u (Err e) → IsCampaignRefusal e
     → HasGone {T = Unit {0}} (planned asked) old new (around t keys) (around u keys) turns (Err e)
 campaign_refused {old = old} {new} {t} {u} {asked = asked} {e = e} (is, fails, acts, due) refusal = elim (is_store e) [
-  | inl store ↦ (
-    planned asked,
-    inl refl,
-    0,
-    omega arith,
-    ended_unprompted refl (λ s. rw is (fails s)) (λ other. absurd (other store)) due,
-  )
-  | inr other ↦ ([], inr (refl, refusal), 0, omega arith, ended_unprompted refl (λ s. absurd (other s)) acts due)
+  | inl store ↦
+      inl (0, omega arith, ended_unprompted refl (λ s. rw is (fails s)) (λ other. absurd (other store)) due)
+  | inr other ↦ inr (other, refusal, ended_unprompted refl (λ s. absurd (other s)) acts due)
 ]

@@ -1,5 +1,5 @@
 -- A whole run of a node, by its answer.
-use Rattle.std.proofs.Common.{◌≡◌, inl, inr, ℕ, List, Option, IfErr, IsErrOf, OnOk, Result, Ok, Err, refl, sym, ap, subst, arith}
+use Rattle.std.proofs.Common.{◌≡◌, inl, inr, ℕ, List, Option, IfErr, IsErrOf, OnOk, Result, Ok, Err, refl, sym, ap, subst, arith, ◌≢◌, ◌⊎◌, ◌≤◌, []}
 use Rattle.std.proofs.lemmas.Grind.{common_steps}
 use Rattle.std.proofs.lemmas.List.{drop_all}
 use Rattle.std.specs.declared.net.socket_addr.SocketAddr.{SocketAddr}
@@ -10,13 +10,16 @@ use Rattle.group_node.specs.Output.{IsReplay, no_progress}
 use Rattle.group_node.specs.States.{NodeState, input}
 use Rattle.group_node.specs.NodeCalls.{running}
 use Rattle.group_wire.specs.Starts.{HasStarted}
+use Rattle.group_protocol.specs.declared.fault.NodeFault.TheVariants.{Store}
+use Rattle.group_node.specs.Deeds.{Deed}
 use Rattle.group_udp.specs.declared.fault.GroupFault.{GroupFault}
+use Rattle.group_udp.specs.declared.fault.GroupFault.TheVariants as group
 use Rattle.node_run.specs.declared.cycles.RunPlan.{RunPlan}
 use Rattle.node_run.specs.declared.node.NodePlan.{NodePlan}
 use Rattle.node_run.specs.Ends.{RunsOpened, RunsWith, keyboard_at_first}
-use Rattle.node_run.specs.Going.{Around, HasGone, planned}
+use Rattle.node_run.specs.Going.{Around, HasEnded, HasGone, planned}
 use Rattle.node_run.specs.Output.{AppendsOutput, NoneWaits}
-use Rattle.group_udp.specs.Refusals.{write_failed}
+use Rattle.group_udp.specs.Refusals.{IsCampaignRefusal, write_failed}
 use Rattle.node_run.specs.Runs.{IsEarlyEnd, RunsNode, WritesReleased}
 use Rattle.node_run.proofs.Going.{is_store, prompted_if}
 use Rattle.node_run.proofs.Starting.{ran_on, ran_out}
@@ -30,28 +33,13 @@ written_from p seen first last fails c d start replay (wrote, h, appends) = grin
 module _ {S : Type 0} (kind : StoreKind S) (me : Me) (program : Parts)
     (store : S) (plan : RunPlan) (first last : NodeState S) (from to : Around) (before after : Option (List ℕ))
     (starts : HasStarted kind me program store (Ok first)) (replay : IsReplay (input last.protocol.known) last.progress) where
-  pub runs_by : (result : Result (Unit {0}) GroupFault) → HasGone (planned plan.campaigns) first last from to plan.turns result
-      → AppendsOutput plan.seen first last (IsErrOf result write_failed) before after
-      → OnOk result (NoneWaits last) → IfErr result (IsEarlyEnd plan)
-      → RunsNode kind.loads me program store plan from to before after result
-  runs_by (Ok x) h writes none others = record {
-    last = running last;
-    first = planned plan.campaigns;
-    prompts = h.prompts;
-    runs = ran_on kind me program store first last from.traffic to.traffic starts _ (λ is. absurd cc) h.acts;
-    begun = inl refl;
-    gift = h.gift;
-    given = h.given;
-    turns = plan.turns;
-    follows = prompted_if (λ f. absurd f) h.prompted;
-    few = omega arith;
-    all = refl;
-    ends = tt;
-    due = tt;
-    writes = written_from program plan.seen first last _ before after starts.fresh.progress replay writes;
-    none_waits = none;
-  }
-  runs_by (Err e) (begun, is, done, few, h) writes none others = record {
+  -- what a refusal ended
+  ended_by : {e : GroupFault} (begun : List Deed) (done : ℕ) → (begun ≡ planned plan.campaigns)
+      ⊎ ((begun ≡ []) × (done ≡ 0) × ((e ≢ group.Node Store) × IsCampaignRefusal e)) → done ≤ plan.turns
+      → HasEnded begun first last from to done e
+      → AppendsOutput plan.seen first last (IsErrOf {T = Unit {0}} (Err e) write_failed) before after → IsEarlyEnd plan e
+      → RunsNode kind.loads me program store plan from to before after (Err e)
+  ended_by {e} begun done is few h writes others = record {
     last = running last;
     first = begun;
     prompts = h.prompts;
@@ -61,10 +49,10 @@ module _ {S : Type 0} (kind : StoreKind S) (me : Me) (program : Parts)
       | inr other ↦
           ran_on kind me program store first last from.traffic to.traffic starts _ (λ failed. other cc) (h.acts other)
     ];
+    turns = done;
     begun = is;
     gift = h.gift;
     given = h.given;
-    turns = done;
     follows = prompted_if (ap Err) h.prompted;
     few = few;
     all = tt;
@@ -73,6 +61,32 @@ module _ {S : Type 0} (kind : StoreKind S) (me : Me) (program : Parts)
     writes = written_from program plan.seen first last _ before after starts.fresh.progress replay writes;
     none_waits = tt;
   }
+
+  pub runs_by : (result : Result (Unit {0}) GroupFault) → HasGone (planned plan.campaigns) first last from to plan.turns result
+      → AppendsOutput plan.seen first last (IsErrOf result write_failed) before after
+      → OnOk result (NoneWaits last) → IfErr result (IsEarlyEnd plan)
+      → RunsNode kind.loads me program store plan from to before after result
+  runs_by (Ok x) h writes none others = record {
+    last = running last;
+    first = planned plan.campaigns;
+    prompts = h.prompts;
+    runs = ran_on kind me program store first last from.traffic to.traffic starts _ (λ is. absurd cc) h.acts;
+    turns = plan.turns;
+    begun = inl refl;
+    gift = h.gift;
+    given = h.given;
+    follows = prompted_if (λ f. absurd f) h.prompted;
+    few = omega arith;
+    all = refl;
+    ends = tt;
+    due = tt;
+    writes = written_from program plan.seen first last _ before after starts.fresh.progress replay writes;
+    none_waits = none;
+  }
+  runs_by (Err e) h writes none others = elim h [
+    | inl k ↦ ended_by (planned plan.campaigns) k.0 (inl refl) k.1 k.2 writes others
+    | inr k ↦ ended_by [] 0 (inr (refl, refl, (k.0, k.1))) (omega arith) k.2 writes others
+  ]
 
 -- ---- over the files and sockets of the system
 

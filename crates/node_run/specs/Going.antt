@@ -65,14 +65,14 @@ pub record HasEnded {S : Type 0} (first : List Deed) (old new : NodeState S) (fr
   pub prompted : IsPrompted gift turns (e ≡ group.Node SerialSpent) prompts
   pub due : HasReason e new.protocol.known
 
--- What a node did, by the answer: so many turns at `Ok`, and at most so many up to a refusal. That
--- of a campaign may come before the prompts `first`.
+-- What a node did, by the answer: so many turns at `Ok`, and at most so many up to a refusal. Where
+-- its campaign does not begin it has done nothing.
 abbrev pub HasGone : {S T : Type 0} → List Deed → NodeState S → NodeState S → Around → Around → ℕ
     → Result T GroupFault → Type 0
 HasGone first old new from to turns (Ok x) = HasGoneOn first old new from to turns
 HasGone first old new from to turns (Err e) =
-    (begun : List Deed) × ((begun ≡ first) ⊎ ((begun ≡ []) × IsCampaignRefusal e)) × (done : ℕ)
-    × (done ≤ turns) × HasEnded begun old new from to done e
+    ((done : ℕ) × (done ≤ turns) × HasEnded first old new from to done e)
+    ⊎ ((e ≢ group.Node Store) × IsCampaignRefusal e × HasEnded [] old new from to 0 e)
 
 -- A call that is refused only since a save of the node fails now: then these are the prompts.
 pub record FailsAt {S : Type 0} (old new : NodeState S) (from to : Option Traffic)

@@ -1,6 +1,6 @@
 -- What a whole run of a node does, what passes over its wire, what is typed at it, and what it
 -- writes.
-use Rattle.std.specs.Prelude.{◌≡◌, ◌≤◌, ◌⊎◌, ℕ, true, List, [], ◌++◌, length, Option, Result, Err, IfErr, IsErrAnd, IsErrOf, OnOk}
+use Rattle.std.specs.Prelude.{◌≡◌, ◌≢◌, ◌≤◌, ◌⊎◌, ℕ, true, List, [], ◌++◌, length, Option, Result, Err, IfErr, IsErrAnd, IsErrOf, OnOk}
 use Rattle.std.specs.Io.KnownBytes.{Appends}
 use Rattle.paxos_acceptor.specs.declared.me.Me.{Me}
 use Rattle.paxos_acceptor.specs.declared.store.StoreFault.{StoreFault}
@@ -59,11 +59,11 @@ pub record RunsNode {S : Type 0} (loads : S → Result Record StoreFault → S �
   pub prompts : List Deed
   pub runs : RunsAsProcess loads me program store last from.traffic to.traffic (first ++ prompts)
       (IsErrOf result (group.Node Store))
-  pub begun : (first ≡ planned plan.campaigns)
-      ⊎ ((first ≡ []) × IsErrAnd result IsCampaignRefusal)
+  pub turns : ℕ
+  pub begun : (first ≡ planned plan.campaigns) ⊎ ((first ≡ []) × (turns ≡ 0)
+      × IsErrAnd result (λ e. (e ≢ group.Node Store) × IsCampaignRefusal e))
   pub gift : List Deed
   pub given : from.keyboard ≡ with_gift gift to.keyboard
-  pub turns : ℕ
   pub follows : IsPrompted gift turns (IsErrOf result (group.Node SerialSpent)) prompts
   pub few : turns ≤ plan.turns
   pub all : OnOk result (turns ≡ plan.turns)

@@ -61,6 +61,10 @@ def put(path, data, like):
         while rest:
             rest = rest[os.write(file, rest) :]
         os.fsync(file)
+    except OSError as fault:
+        # A write or a sync that fails has no name of its own.
+        fault.filename = fault.filename or second
+        raise
     finally:
         os.close(file)
     os.rename(second, path)
@@ -173,6 +177,6 @@ class Target:
 
 def text_with_help(fault):
     """What the system says of a fault, with the file's name, and what helps."""
-    room = ": make room there" if fault.errno == errno.ENOSPC else ""
+    room = ": make room there" if fault.errno in (errno.ENOSPC, errno.EDQUOT) else ""
     first = "mend that, and " if fault.errno in LASTING else ""
     return f"{text_of_fault(fault)}{room}; {first}call it again"

@@ -30,7 +30,7 @@ def add_words(add):
     add("--silent", metavar="SECONDS", type=float, default=3.0,
         help="how long no leader is heard before a node is asked (3)")
     add("--new", action="store_true", help="the node is new: there is no record yet")
-    add("--program", metavar="FILE", default=program,
+    add("--program", metavar="FILE", default=program, type=os.path.abspath,
         help="pgroup; if not said, $PGROUP, or that of this repository or package")
 
 

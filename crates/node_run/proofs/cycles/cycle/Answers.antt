@@ -1,4 +1,4 @@
-use Rattle.std.proofs.Common.{[], inl, refl, arith}
+use Rattle.std.proofs.Common.{inl, refl, arith}
 use Rattle.std.proofs.lemmas.Result.{err_from_is_err_and}
 use Rattle.node_run.proofs.Going.{gone_ended, gone_then, gone_unprompted}
 use Rattle.node_run.proofs.Writing.{wrote_all, wrote_but_one, wrote_none}
@@ -25,15 +25,13 @@ returns-in_err-more-clause-goes g c = grind arith
 pub returns-in_err-release_all-clause-goes : goal.returns-in_err-release_all-clause-goes
 returns-in_err-release_all-clause-goes g c =
     let p = err_from_is_err_and c.from_residual-in_err-release_all.result c.from_residual-in_err-release_all.ensures.1 in
-    rw (p.1, p.2) (
-      [],
-      inl refl,
+    rw (p.1, p.2) (inl (
       1,
       omega arith,
       gone_ended (gone_then c.deeds_go_on.ensures c.in_ok-more.ensures.goes
           (gone_unprompted (rw c.in_err-release_all.ensures.passed (c.in_err-release_all.ensures.acts _)) refl))
           (λ is. absurd (cc (c.in_err-release_all.ensures.released.1, is))) (rw c.in_err-release_all.ensures.released.1 tt),
-    )
+    ))
 
 pub returns-clause-goes : goal.returns-clause-goes
 returns-clause-goes g c =

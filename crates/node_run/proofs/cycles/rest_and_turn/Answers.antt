@@ -1,4 +1,4 @@
-use Rattle.std.proofs.Common.{[], ◌∙◌, inl, refl, sym, arith}
+use Rattle.std.proofs.Common.{◌∙◌, inl, sym, arith}
 use Rattle.std.proofs.lemmas.Result.{err_from_is_err_and}
 use Rattle.node_run.proofs.Going.{ended_then, gift_none, gone_then, gone_turn, gone_unprompted, prompted_none, save_ended}
 use Rattle.node_run.proofs.KeyboardAnswers.{answered_on}
@@ -9,13 +9,13 @@ returns-in_err-rest_unless_busy-clause-goes g c =
     let p = err_from_is_err_and c.from_residual.result c.from_residual.ensures.1 in
     let same = c.in_err-rest_unless_busy.ensures.untyped in
     rw (p.1, p.2)
-    ([], inl refl, 0, omega arith, save_ended c.in_err-rest_unless_busy.ensures.rests (sym same ∙ gift_none _) prompted_none)
+    (inl (0, omega arith, save_ended c.in_err-rest_unless_busy.ensures.rests (sym same ∙ gift_none _) prompted_none))
 
 pub returns-in_err-answered-clause-goes : goal.returns-in_err-answered-clause-goes
 returns-in_err-answered-clause-goes g c =
     let p = err_from_is_err_and c.from_residual-in_err-answered.result c.from_residual-in_err-answered.ensures.1 in
     let rested = gone_unprompted c.in_ok-rest_unless_busy.ensures.rests c.in_ok-rest_unless_busy.ensures.untyped in
-    rw (p.1, p.2) ([], inl refl, 0, omega arith, ended_then c.deeds_go_on.ensures rested c.in_err-answered.ensures.answered.1)
+    rw (p.1, p.2) (inl (0, omega arith, ended_then c.deeds_go_on.ensures rested c.in_err-answered.ensures.answered.1))
 
 pub returns-in_err-ran-clause-goes : goal.returns-in_err-ran-clause-goes
 returns-in_err-ran-clause-goes g c =
@@ -24,7 +24,7 @@ returns-in_err-ran-clause-goes g c =
     let answered = answered_on g.S.Store.kind _ c.in_ok-answered.ensures.answered in
     let ended = ended_then c.deeds_go_on.ensures (gone_then c.deeds_go_on.ensures rested answered)
     (save_ended c.in_err-ran.ensures.refused (gift_none _) prompted_none) in
-    rw (p.1, p.2) ([], inl refl, 0, omega arith, ended)
+    rw (p.1, p.2) (inl (0, omega arith, ended))
 
 pub returns-clause-goes : goal.returns-clause-goes
 returns-clause-goes g c =
