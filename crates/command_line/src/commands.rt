@@ -8,6 +8,7 @@ use machine_run::{Counting, IoFault, MachineRefusal, check_file, list_file, run_
 use net_run::{NetPlan, net_file};
 use node_run::{NodePlan, RunPlan, node_file};
 use paxos_msg::Group;
+use std::fs::File;
 use std::io::{BufWriter, Read, Write};
 use std::net::Net;
 use std::rt::{Env, Files};
@@ -56,7 +57,12 @@ fn run<H: Files + AllocGlobal, R: Read, W: Write>(
 }
 
 /// Runs the node of a plan.
-fn run_plan<H: Files + Net + Clock + Env + AllocGlobal + Copy + Drop, R: Read, W: Write, E: Write>(
+fn run_plan<
+    H: Files<File = File> + Net + Clock + Env + AllocGlobal + Copy + Drop,
+    R: Read,
+    W: Write,
+    E: Write,
+>(
     rt: &H,
     file: &str,
     plan: &NodePlan<'_>,
@@ -91,13 +97,12 @@ fn plan_of<'a>(words: &'a NodeWords<'a>, trace: Option<&'a str>, is_logged: bool
 }
 
 /// Runs the node of the words of `node`.
-fn node<H: Files + Net + Clock + Env + AllocGlobal + Copy + Drop, R: Read, W: Write, E: Write>(
-    rt: &H,
-    words: &NodeWords<'_>,
-    reader: &mut R,
-    writer: &mut W,
-    errors: &mut E,
-) -> Conclusion {
+fn node<
+    H: Files<File = File> + Net + Clock + Env + AllocGlobal + Copy + Drop,
+    R: Read,
+    W: Write,
+    E: Write,
+>(rt: &H, words: &NodeWords<'_>, reader: &mut R, writer: &mut W, errors: &mut E) -> Conclusion {
     let asked = trace_asked(rt);
     let plan = plan_of(words, if_said(asked.as_str()), is_log_asked(rt));
     run_plan(rt, words.file, &plan, reader, writer, errors)
@@ -105,7 +110,7 @@ fn node<H: Files + Net + Clock + Env + AllocGlobal + Copy + Drop, R: Read, W: Wr
 
 /// Does what is asked. Returns how that ended.
 pub fn perform<
-    H: Files + Net + Clock + Env + AllocGlobal + Copy + Drop,
+    H: Files<File = File> + Net + Clock + Env + AllocGlobal + Copy + Drop,
     R: Read,
     W: Write,
     E: Write,

@@ -4,13 +4,14 @@ use crate::commands::perform;
 use crate::conclusion::{BAD_WORDS, Conclusion, DONE, Refusal, conclude, refuse};
 use command_words::{DEFAULT_STEPS, NotAsked, asked_of};
 use machine_run::{IoFault, MachineRefusal, run_built_in};
+use std::fs::File;
 use std::io::{self, Read, Write};
 use std::net::Net;
 use std::rt::{Env, Files};
 use std::time::Clock;
 
 /// The version of the program, which is the newest of CHANGELOG.md.
-const VERSION: &str = "0.8.0";
+const VERSION: &str = "0.9.0";
 
 /// Returns the status once a text was written, or could not be.
 fn status_of<E: Write>(errors: &mut E, written: io::Result<()>) -> u8 {
@@ -60,7 +61,7 @@ pub fn explain<W: Write, E: Write>(writer: &mut W, errors: &mut E, reason: NotAs
 /// refused; 2 a fault of the command line; 3 an execution error; 4 the steps are spent. A fault of
 /// the error stream is ignored.
 pub fn command<
-    H: Files + Net + Clock + Env + AllocGlobal + Copy + Drop,
+    H: Files<File = File> + Net + Clock + Env + AllocGlobal + Copy + Drop,
     R: Read,
     W: Write,
     E: Write,

@@ -12,6 +12,7 @@ use machine_run::{ByteWriter, MachineRefusal, load_file, read_whole};
 use paxos_msg::Group;
 use pcode_ops::Program;
 use std::alloc::Global;
+use std::fs::File;
 use std::io::{Read, Write};
 use std::net::{Net, SocketAddr};
 use std::rt::Files;
@@ -74,7 +75,7 @@ fn input_of<R: Read>(
 
 /// Runs a program at one node, as `node_file` says.
 fn node_loaded<
-    H: Files + Net + Clock + AllocGlobal + Copy + Drop,
+    H: Files<File = File> + Net + Clock + AllocGlobal + Copy + Drop,
     R: Read,
     W: ByteWriter,
     E: Write,
@@ -120,7 +121,12 @@ fn note_end<H: Clock, E: Write>(
 }
 
 /// Runs the program of a code file at one node, as `node_file` says.
-fn node_noted<H: Files + Net + Clock + AllocGlobal + Copy + Drop, R: Read, W: ByteWriter, E: Write>(
+fn node_noted<
+    H: Files<File = File> + Net + Clock + AllocGlobal + Copy + Drop,
+    R: Read,
+    W: ByteWriter,
+    E: Write,
+>(
     rt: &H,
     file: &str,
     plan: &NodePlan<'_>,
@@ -150,7 +156,7 @@ fn node_noted<H: Files + Net + Clock + AllocGlobal + Copy + Drop, R: Read, W: By
 ///
 /// `errors` gets the notes of the node, if the plan asks for a log.
 pub fn node_file<
-    H: Files + Net + Clock + AllocGlobal + Copy + Drop,
+    H: Files<File = File> + Net + Clock + AllocGlobal + Copy + Drop,
     R: Read,
     W: ByteWriter,
     E: Write,

@@ -18,6 +18,7 @@ use paxos_acceptor::Store;
 use paxos_disk::FileStore;
 use pcode_ops::Program;
 use std::alloc::Global;
+use std::fs::File;
 use std::io::Write;
 use std::net::{Net, SocketAddr};
 use std::rt::Files;
@@ -79,7 +80,7 @@ pub fn run_node<H: Clock, T: CountedWire, K: Keyboard, S: Store + Drop, W: ByteW
 
 /// Runs one node over the record in the file that the plan names.
 fn run_over_file<
-    H: Files + Net + Clock + AllocGlobal + Copy + Drop,
+    H: Files<File = File> + Net + Clock + AllocGlobal + Copy + Drop,
     K: Keyboard,
     W: ByteWriter,
     E: Write,
@@ -110,7 +111,11 @@ fn run_over_file<
 }
 
 /// Opens the socket of the node, and runs it. It types `text`.
-fn run_over_text<H: Files + Net + Clock + AllocGlobal + Copy + Drop, W: ByteWriter, E: Write>(
+fn run_over_text<
+    H: Files<File = File> + Net + Clock + AllocGlobal + Copy + Drop,
+    W: ByteWriter,
+    E: Write,
+>(
     rt: &H,
     program: &Program,
     config: Config,
@@ -132,7 +137,11 @@ fn run_over_text<H: Files + Net + Clock + AllocGlobal + Copy + Drop, W: ByteWrit
 
 /// Opens the sockets of the node and of its keyboard, and runs it. It types the bytes that come to
 /// `address` as datagrams.
-fn run_over_datagrams<H: Files + Net + Clock + AllocGlobal + Copy + Drop, W: ByteWriter, E: Write>(
+fn run_over_datagrams<
+    H: Files<File = File> + Net + Clock + AllocGlobal + Copy + Drop,
+    W: ByteWriter,
+    E: Write,
+>(
     rt: &H,
     program: &Program,
     config: Config,
@@ -153,7 +162,11 @@ fn run_over_datagrams<H: Files + Net + Clock + AllocGlobal + Copy + Drop, W: Byt
 
 /// Opens the sockets that the plan names, and runs the node. It types `text`, unless typed bytes
 /// come as datagrams.
-pub fn run_opened<H: Files + Net + Clock + AllocGlobal + Copy + Drop, W: ByteWriter, E: Write>(
+pub fn run_opened<
+    H: Files<File = File> + Net + Clock + AllocGlobal + Copy + Drop,
+    W: ByteWriter,
+    E: Write,
+>(
     rt: &H,
     program: &Program,
     config: Config,
