@@ -2,8 +2,7 @@
 for."""
 import re
 
-from . import tree
-from .pages import SHARED_LEMMAS
+from . import pages, tree
 from .tree import fault, text_of
 
 # A lemma with its place on the line. What the prover asks for has the type `goal.NAME`.
@@ -48,10 +47,11 @@ def others(text, indent, name):
 
 
 def may_cite(path, home):
-    """Whether a file may cite the lemmas of another: of its own crate, and what all crates
-    share."""
+    """Whether a file may cite the lemmas of another: of its own crate, and what others may
+    cite."""
+    crate = path.split("/")[1]
     module = home.removeprefix("crates/").removesuffix("antt").replace("/", ".")
-    return path.split("/")[1] == home.split("/")[1] or SHARED_LEMMAS.match(module) is not None
+    return crate == home.split("/")[1] or pages.may_cite(crate, module)
 
 
 def check():

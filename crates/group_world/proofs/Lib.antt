@@ -1,8 +1,8 @@
 mod CallLeaves
-mod WorldAsGroup
+pub mod WorldAsGroup
 mod CallCases
-mod SoundWorldsAgree
-mod OrderLists
+pub mod SoundWorldsAgree
+pub mod OrderLists
 mod OrderFronts
 mod OrderRows
 mod WrittenVotes

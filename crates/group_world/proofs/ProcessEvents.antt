@@ -5,6 +5,7 @@ use Rattle.std.proofs.lemmas.List.{append-nil, length-set, nil_from_length}
 use Rattle.std.proofs.lemmas.Bool.Decides.{nat_tests}
 use Rattle.std.proofs.Common.{◌≡◌, ◌≢◌, ◌∙◌, ◌⊎◌, inl, inr, ℕ, zero, suc, ◌-◌, List, [], ◌∷◌, ◌++◌, append_assoc, length, slice_get, slice_set, get_or, Some, refl, sym, ap, subst, arith, eq-eqb, ne_eqb}
 use Rattle.paxos_msg.specs.declared.message.Group.{Group}
+use Rattle.paxos_msg.specs.Batches.{Sent}
 use Rattle.group_protocol.specs.Packets.{Datagram}
 use Rattle.group_node.specs.Deeds.{Campaign, Crash, Deed, Hear, Idle, Press, Release, Run, Start, Tick}
 use Rattle.group_world.specs.declared.event.Act.{Act}
@@ -131,17 +132,29 @@ log_before w e log now m new there does heard h =
 pub no_log : (w v : World) → v ≡ w → IsLog w [] v.members × (v ≡ after_log w [] v.members)
 no_log w v is = grind (arith, append-nil w.sent, append-nil w.typed)
 
+-- an act is no idle deed
+act_is_busy : (sent : Sent) (act : Act) (deed : Deed) → IsDeedOf sent act deed → deed ≢ Idle
+act_is_busy sent (act.Press i byte) deed is = λ idle. cc
+act_is_busy sent (act.Deliver k i) deed (m, at, is) = λ idle. cc
+act_is_busy sent (act.Campaign i) deed is = λ idle. cc
+act_is_busy sent (act.Tick i) deed is = λ idle. cc
+act_is_busy sent (act.Run i steps) deed is = λ idle. cc
+act_is_busy sent (act.Release i) deed is = λ idle. cc
+act_is_busy sent (act.Crash i) deed is = λ idle. cc
+act_is_busy sent (act.Start i) deed (r, is) = λ idle. cc
+
 -- what events do, some log does: each event is an entry
 pub leads_log : (events : List Event) (w v : World) → LeadsBy w events v → MayBeLogged w events v
-leads_log [] w v is = let found = no_log w v is in ([], found.0, refl, found.1)
+leads_log [] w v is = let found = no_log w v is in ([], found.0, refl, tt, found.1)
 leads_log (one ∷ events) w v (mid, d, goes, rest) =
     let left = goes.does.left in
     let e : Entry = record { node = node_of one.act; deed = goes.deed; save = one.save; sent = left.sent; typed = left.typed } in
     let heard = heard_by w.group w.sent one.act goes.deed goes.is_deed in
-    let (log, h, are, whole) = leads_log events (moved w e left.member) v (rw goes.does.leads at rest) in (
+    let (log, h, are, busy, whole) = leads_log events (moved w e left.member) v (rw goes.does.leads at rest) in (
       e ∷ log,
       log_before w e log v.members goes.does.node left.member goes.does.there (left.answer, goes.does.does) heard h,
       (one ∷ [], events, (goes.is_deed, refl, refl, refl), are, refl),
+      (act_is_busy (messages_in w.group w.sent) one.act goes.deed goes.is_deed, busy),
       whole ∙ after_both w e log v.members left.member,
     )
 

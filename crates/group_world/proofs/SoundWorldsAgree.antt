@@ -117,7 +117,7 @@ module _ (laws : PlayLaws) {w : World} (h : IsSound w) where
       chosen_output shown.values x m.console shown.chosen chosen shown.output
 
   -- its console is comparable with what its machine has written
-  console_compares : {i : ℕ} {m : Member} {q : Running} → IsUp w i m q → AreComparable m.console (written q)
+  pub console_compares : {i : ℕ} {m : Member} {q : Running} → IsUp w i m q → AreComparable m.console (written q)
   console_compares {i} {m} {q} up =
       let (x, chosen) = laws.there w.group.size _ in
       let sound = running h up in

@@ -1,6 +1,6 @@
 -- Processes that are the nodes of a group: what each of them did, in one order of time, over stores
 -- that keep their records and a network that carries what was sent.
-use Rattle.std.specs.Prelude.{◌≡◌, ℕ, ◌==◌, ◌≤◌, List, [], ◌∷◌, ◌++◌, length, filter, flat_map, take, Some}
+use Rattle.std.specs.Prelude.{◌≡◌, ◌≢◌, ℕ, ◌==◌, ◌≤◌, List, [], ◌∷◌, ◌++◌, length, filter, flat_map, take, Some}
 use Rattle.std.specs.List.{AllByRecursion}
 use Rattle.pcode_file.specs.Parts.{Parts}
 use Rattle.paxos_msg.specs.declared.message.Group.{Group}
@@ -145,10 +145,11 @@ ConsolesShowReleased w =
     × (take node.released node.configuration.output ≡ take node.released (w.seats i).console)
 
 -- The claim that a log of processes, with these events, leads from a group to another.
+-- Forbids: an idle entry, which is no event.
 abbrev pub MayBeLogged : World → List Event → World → Type 0
 MayBeLogged w events v =
     (log : List Entry) × IsLog w log v.members × AreEventsOf w.group w.sent log events
-    × (v ≡ after_log w log v.members)
+    × AllByRecursion (λ e. e.deed ≢ Idle) log × (v ≡ after_log w log v.members)
 
 -- ---- two parts of a log
 

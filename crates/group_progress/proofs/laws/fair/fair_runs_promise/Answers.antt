@@ -1,0 +1,34 @@
+use Rattle.group_progress.proofs.Acceptors.{TestLaws}
+use Rattle.group_progress.proofs.Covered.{promised_on}
+use Rattle.group_progress.proofs.Going.{EventLaws, Good}
+use Rattle.group_progress.proofs.Starting.{first_tallies, happens_good}
+use Rattle.group_progress.proofs.laws.fair.fair_runs_promise.Goals as goal
+
+pub returns : goal.returns
+returns c =
+    let events : EventLaws = record {
+      sound = c.deeds_keep_it_sound.ensures.goes_on;
+      ordered = c.deeds_keep_order.ensures.goes_on;
+      read = c.spelling_is_read.ensures.read;
+      fits_start = c.what_goes_out_fits.ensures.start;
+      fits_campaign = c.what_goes_out_fits.ensures.campaign;
+      fits_tick = c.what_goes_out_fits.ensures.tick;
+      fits_message = c.what_goes_out_fits.ensures.message;
+    } in
+    let tests : TestLaws = record {
+      below = c.tests_are_exact.ensures.below;
+      not_below = c.tests_are_exact.ensures.not_below;
+      same = c.tests_are_exact.ensures.same;
+      same_values = c.tests_are_exact.ensures.same_values;
+      majority = c.tests_are_exact.ensures.majority;
+    } in
+    λ p group list w members leader b run size session leads most led fair.
+    let begins : Good _ = record {
+      holds = record {
+        sound = c.deeds_keep_it_sound.ensures.begins p group size session;
+        ordered = c.deeds_keep_order.ensures.begins p
+            group;
+      };
+      tallies = first_tallies p group;
+    } in
+    promised_on events tests c.one_front.ensures.few run (happens_good events _ list w begins leads) most led fair

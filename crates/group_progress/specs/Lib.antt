@@ -1,0 +1,4 @@
+pub mod GoingOn
+pub mod Processes
+pub mod Fair
+pub mod Stuck

@@ -1,0 +1,97 @@
+-- Runs that lack one premise of fair runs, and in which a key waits for ever.
+use Rattle.std.specs.Prelude.{◌≡◌, ◌≢◌, ℕ, suc, ◌+◌, ◌<◌, Bool, IsTrue, List, [], ◌∷◌, Contains, Some, IfSome}
+use Rattle.pcode_file.specs.Parts.{Parts}
+use Rattle.paxos_msg.specs.declared.limits.TheConstants.{PLACES}
+use Rattle.paxos_msg.specs.declared.message.Body.TheVariants.{Accept, Submit}
+use Rattle.paxos_msg.specs.declared.message.Group.{Group}
+use Rattle.paxos_msg.specs.declared.ballot.Ballot.{Ballot}
+use Rattle.paxos_msg.specs.declared.value.Value.{Value}
+use Rattle.paxos_msg.specs.Ballots.{IsAtMost, IsMajority}
+use Rattle.paxos_msg.specs.Batches.{Msg}
+use Rattle.paxos_msg.specs.Fits.{IsNode}
+use Rattle.paxos_msg.specs.Keys.{Key}
+use Rattle.paxos_msg.specs.Messages.{IsSaid}
+use Rattle.group_protocol.specs.ProposerRows.{next_ballot}
+use Rattle.group_node.specs.NodeCalls.{Running}
+use Rattle.group_world.specs.declared.event.Act.{Act}
+use Rattle.group_world.specs.declared.event.Act.TheVariants.{Campaign, Crash, Deliver, Tick}
+use Rattle.group_world.specs.declared.event.Done.TheVariants.{Applied}
+use Rattle.group_world.specs.declared.event.Outcome.TheVariants.{Kept}
+use Rattle.group_world.specs.declared.event.Event.{Event}
+use Rattle.group_world.specs.Event.{LeadsBy, kept_event, node_of}
+use Rattle.group_world.specs.Group.{HasUp, IsUp, member_at, new_world, World, world_state}
+use Rattle.group_world.specs.Member.{Member}
+use Rattle.group_progress.specs.GoingOn.{HasRead, keys_waiting}
+use Rattle.group_progress.specs.Fair.{Endless, IsFair, IsLed, IsOnItsWay, Later}
+
+-- Each node of the majority hears each message that one of them sends to it.
+-- Allows: a run in which nobody ticks.
+pub record HearsAll (members : ℕ → Bool) (w : World) (run : Endless w) : Type 0 where
+  pub hears : (n k i : ℕ) (m : Msg) → IsNode w.group.size i → IsTrue (members i)
+      → IsOnItsWay members run n k i m → Later n (λ t. (run.event t).act ≡ Deliver k i)
+
+-- Each node of the majority ticks again and again, and hears each message that one of them sends to
+-- it, but for Submits.
+-- Allows: a run in which no Submit is ever heard.
+pub record HearsAllButSubmits (members : ℕ → Bool) (w : World) (run : Endless w) : Type 0 where
+  pub ticks : (n i : ℕ) → IsNode w.group.size i → IsTrue (members i)
+      → Later n (λ t. (run.event t).act ≡ Tick i)
+  pub hears : (n k i : ℕ) (m : Msg) → IsNode w.group.size i → IsTrue (members i)
+      → IsOnItsWay members run n k i m → ((v : Value) → m.body ≢ Submit v)
+      → Later n (λ t. (run.event t).act ≡ Deliver k i)
+
+-- Acts of a node of the majority while one node leads, where any message may be heard.
+-- Allows: any message that was ever sent.
+-- Forbids: a crash; a campaign.
+abbrev pub IsOpenAct : Act → Type 0
+IsOpenAct (Campaign i) = ⊥
+IsOpenAct (Crash i) = ⊥
+IsOpenAct _ = Unit {0}
+
+-- A run that is led, but for what is heard: from moment 1 on nodes of the majority neither crash
+-- nor campaign, and their saves are kept.
+-- Allows: an old Prepare above the ballot that is heard, and what follows from it.
+pub record IsLedOpenly (members : ℕ → Bool) (leader : ℕ) (b : Ballot) (w : World)
+    (run : Endless w) : Type 0 where
+  pub node : IsNode w.group.size leader
+  pub own : IsTrue (members leader)
+  pub campaigns : run.event 0 ≡ kept_event (Campaign leader)
+  pub happens : run.done 0 ≡ Applied
+  pub up : (i : ℕ) → IsNode w.group.size i → IsTrue (members i) → HasUp w i
+  pub ballot : (m : Member) (q : Running) → IsUp w leader m q → next_ballot q.known ≡ b
+  pub above : (i : ℕ) (m : Member) → IsTrue (members i) → member_at w.members i ≡ Some m
+      → IfSome m.kept.promised (λ p. IsAtMost p b)
+  pub kept : (n : ℕ) → IsTrue (members (node_of (run.event (suc n)).act))
+      → (run.event (suc n)).save ≡ Kept
+  pub peace : (n : ℕ) → IsTrue (members (node_of (run.event (suc n)).act))
+      → IsOpenAct (run.event (suc n)).act
+  pub room : (n s : ℕ) (c : Ballot) (v : Value)
+      → IsSaid (world_state (run.world n)).sent (Accept c s v) → s + 1 < PLACES
+
+-- The claim that a run is led, with its world given.
+abbrev pub IsLedCalmly : (ℕ → Bool) → ℕ → Ballot → (w : World) → Endless w → Type 0
+IsLedCalmly members leader b w run = IsLed members leader b run
+
+-- The claim that a run is fair, with its world given.
+abbrev pub HearsAndTicks : (ℕ → Bool) → (w : World) → Endless w → Type 0
+HearsAndTicks members w run = IsFair members run
+
+-- A run from a world that is reached, of which these two hold. A key waits at a node of the
+-- majority before it, and no node of the majority ever reads that key.
+-- Forbids: a key that some node of the majority reads, even late.
+pub record HasStuckRun (Led : (ℕ → Bool) → ℕ → Ballot → (w : World) → Endless w → Type 0)
+    (Hears : (ℕ → Bool) → (w : World) → Endless w → Type 0) (p : Parts)
+    (group : Group) : Type 0 where
+  pub events : List Event
+  pub world : World
+  pub members : ℕ → Bool
+  pub leader : ℕ
+  pub ballot : Ballot
+  pub run : Endless world
+  pub leads : LeadsBy (new_world p group) events world
+  pub majority : IsMajority world.group.size members
+  pub led : Led members leader ballot world run
+  pub fair : Hears members world run
+  pub key : Key
+  pub waits : Contains (keys_waiting members world) key
+  pub unread : (t i : ℕ) → IsTrue (members i) → ¬ HasRead (key ∷ []) (run.world t) i

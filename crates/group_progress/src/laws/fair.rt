@@ -1,0 +1,278 @@
+//! The laws of endless runs: under one leading node and a fair network each of them goes on.
+ghost use Rattle.std.specs.Prelude.{Contains, Some, ℕ, suc, ◌<◌, ◌≤◌, Bool, IsTrue, List, ◌≡◌};
+ghost use Rattle.pcode_file.specs.Parts.{Parts};
+ghost use Rattle.paxos_msg.specs.declared.message.Group.{Group};
+ghost use Rattle.paxos_msg.specs.Ballots.{IsMajority};
+ghost use Rattle.paxos_msg.specs.Fits.{IsGroup, IsNode};
+ghost use Rattle.paxos_learner.specs.Input.{front_values, keys_in_order};
+ghost use Rattle.group_protocol.specs.States.{IsSize};
+ghost use Rattle.group_world.specs.declared.event.Event.{Event};
+ghost use Rattle.group_world.specs.Event.{LeadsBy};
+ghost use Rattle.group_world.specs.Group.{IsUp, new_world, World};
+ghost use Rattle.group_world.specs.Member.{Member};
+ghost use Rattle.group_node.specs.NodeCalls.{Running};
+ghost use Rattle.paxos_msg.specs.declared.ballot.Ballot.{Ballot};
+ghost use Rattle.paxos_msg.specs.Batches.{Vote};
+ghost use Rattle.paxos_proposer.specs.Proposer.{next_of, Proposer};
+ghost use Rattle.group_progress.specs.Fair.{AllHaveLearned, AllHoldPromise, AllIsRead, AllIsShown, Endless, FairRunsGoOn, HasFairRun, HasProposedPast, IsFair, IsLeading, IsLed, KeepsPlaying, Later};
+ghost use Rattle.group_progress.specs.Stuck.{HasStuckRun, HearsAll, HearsAllButSubmits, HearsAndTicks, IsLedCalmly, IsLedOpenly};
+ghost use Rattle.group_progress.specs.GoingOn.{AllHaveRead};
+
+use group_node::laws::input_is_chosen;
+use group_protocol::laws::{
+    calls_keep_what_is_learned, waiting_keys_are_a_row, what_goes_out_fits,
+};
+use group_world::laws::{deeds_keep_it_sound, deeds_keep_order, sound_worlds_agree};
+use paxos_learner::laws::{
+    input_grows, key_tests_are_exact, keys_are_read_once, learned_stays, one_front,
+    values_are_learned,
+};
+use paxos_msg::grammar::spelling_is_read;
+use paxos_msg::laws::tests_are_exact;
+use pcode_machine::laws::{output_only_grows, prefixes_are_ordered};
+
+/// In each fair run all nodes of the majority promise the leading node's ballot, and from then on
+/// none above it.
+pub fn fair_runs_promise()
+    ensures { (p : Parts) (group : Group) (events : List Event) (w : World) (members : ℕ → Bool)
+        (leader : ℕ) (b : Ballot) (run : Endless w)
+        → IsSize group.size → IsGroup group → LeadsBy (new_world p group) events w
+        → IsMajority w.group.size members → IsLed members leader b run → IsFair members run
+        → Later 0 (λ t. (u : ℕ) → t ≤ u → AllHoldPromise members b w.group.size (run.world u)) }
+{
+    deeds_keep_it_sound();
+    deeds_keep_order();
+    what_goes_out_fits();
+    one_front();
+    spelling_is_read();
+    tests_are_exact();
+}
+
+/// In each fair run the node that campaigned comes to lead: it proposes under its ballot, and knows
+/// that a majority has promised all places, from some moment on.
+pub fn fair_runs_are_led()
+    ensures { (p : Parts) (group : Group) (events : List Event) (w : World) (members : ℕ → Bool)
+        (leader : ℕ) (b : Ballot) (run : Endless w)
+        → IsSize group.size → IsGroup group → LeadsBy (new_world p group) events w
+        → IsMajority w.group.size members → IsLed members leader b run → IsFair members run
+        → Later 0 (λ t. (among : ℕ → Bool) × IsMajority w.group.size among
+        × ((u : ℕ) → t ≤ u → IsLeading among b leader (run.world u))) }
+{
+    deeds_keep_it_sound();
+    deeds_keep_order();
+    what_goes_out_fits();
+    one_front();
+    spelling_is_read();
+    tests_are_exact();
+}
+
+/// In each fair run what one node of the majority has read is read by each of them, from some
+/// moment on.
+pub fn fair_runs_catch_up()
+    ensures { (p : Parts) (group : Group) (events : List Event) (w : World) (members : ℕ → Bool)
+        (leader : ℕ) (b : Ballot) (run : Endless w) (j n : ℕ) (m : Member) (q : Running)
+        → IsSize group.size → IsGroup group → LeadsBy (new_world p group) events w
+        → IsMajority w.group.size members → IsLed members leader b run → IsFair members run
+        → IsNode w.group.size j → IsTrue (members j) → IsUp (run.world (suc n)) j m q
+        → Later (suc n) (λ t. (u : ℕ) → t ≤ u → AllHaveRead members w.group.size
+        (keys_in_order (front_values q.known.learner.learned)) (run.world u)) }
+{
+    deeds_keep_it_sound();
+    deeds_keep_order();
+    sound_worlds_agree();
+    what_goes_out_fits();
+    waiting_keys_are_a_row();
+    calls_keep_what_is_learned();
+    input_grows();
+    keys_are_read_once();
+    one_front();
+    values_are_learned();
+    spelling_is_read();
+    tests_are_exact();
+}
+
+/// In each fair run the leading node proposes what it keeps of earlier votes: from some moment on
+/// its next place is above each vote that it has kept.
+pub fn fair_runs_propose()
+    ensures { (p : Parts) (group : Group) (events : List Event) (w : World) (members : ℕ → Bool)
+        (leader : ℕ) (b : Ballot) (run : Endless w) (n : ℕ) (m : Member) (q : Running)
+        (proposer : Proposer) (vote : Vote)
+        → IsSize group.size → IsGroup group → LeadsBy (new_world p group) events w
+        → IsMajority w.group.size members → IsLed members leader b run → IsFair members run
+        → IsUp (run.world (suc n)) leader m q → q.known.proposer ≡ Some proposer
+        → Contains proposer.kept vote
+        → Later (suc n) (λ t. (u : ℕ) → t ≤ u → HasProposedPast b vote.place (run.world u) leader) }
+{
+    deeds_keep_it_sound();
+    deeds_keep_order();
+    sound_worlds_agree();
+    what_goes_out_fits();
+    waiting_keys_are_a_row();
+    calls_keep_what_is_learned();
+    input_grows();
+    key_tests_are_exact();
+    keys_are_read_once();
+    learned_stays();
+    one_front();
+    values_are_learned();
+    spelling_is_read();
+    tests_are_exact();
+}
+
+/// In each fair run what the leading node has proposed is learned by each node of the majority,
+/// from some moment on.
+pub fn fair_runs_learn()
+    ensures { (p : Parts) (group : Group) (events : List Event) (w : World) (members : ℕ → Bool)
+        (leader : ℕ) (b : Ballot) (run : Endless w) (n : ℕ) (m : Member) (q : Running)
+        (proposer : Proposer)
+        → IsSize group.size → IsGroup group → LeadsBy (new_world p group) events w
+        → IsMajority w.group.size members → IsLed members leader b run → IsFair members run
+        → IsUp (run.world (suc n)) leader m q → q.known.proposer ≡ Some proposer
+        → Later (suc n) (λ t. (u : ℕ) → t ≤ u
+        → AllHaveLearned members w.group.size (next_of proposer) (run.world u)) }
+{
+    deeds_keep_it_sound();
+    deeds_keep_order();
+    sound_worlds_agree();
+    what_goes_out_fits();
+    waiting_keys_are_a_row();
+    calls_keep_what_is_learned();
+    input_grows();
+    key_tests_are_exact();
+    keys_are_read_once();
+    learned_stays();
+    one_front();
+    values_are_learned();
+    spelling_is_read();
+    tests_are_exact();
+}
+
+/// In each fair run each key that waits at a node of the majority is read by each of them, from
+/// some moment on.
+pub fn fair_runs_read()
+    ensures { (p : Parts) (group : Group) (events : List Event) (w : World) (members : ℕ → Bool)
+        (leader : ℕ) (b : Ballot) (run : Endless w) (n : ℕ)
+        → IsSize group.size → IsGroup group → LeadsBy (new_world p group) events w
+        → IsMajority w.group.size members → IsLed members leader b run → IsFair members run
+        → AllIsRead members run n }
+{
+    deeds_keep_it_sound();
+    deeds_keep_order();
+    sound_worlds_agree();
+    what_goes_out_fits();
+    waiting_keys_are_a_row();
+    calls_keep_what_is_learned();
+    input_grows();
+    key_tests_are_exact();
+    keys_are_read_once();
+    learned_stays();
+    one_front();
+    values_are_learned();
+    spelling_is_read();
+    tests_are_exact();
+}
+
+/// In each run that is led, a node of the majority that runs and releases again and again shows
+/// what its program writes on what it has read.
+pub fn fair_runs_show()
+    ensures { (p : Parts) (group : Group) (events : List Event) (w : World) (members : ℕ → Bool)
+        (leader : ℕ) (b : Ballot) (run : Endless w) (i n : ℕ)
+        → IsSize group.size → IsGroup group → LeadsBy (new_world p group) events w
+        → IsLed members leader b run → IsTrue (members i) → KeepsPlaying i run
+        → AllIsShown run i n }
+{
+    deeds_keep_it_sound();
+    deeds_keep_order();
+    what_goes_out_fits();
+    calls_keep_what_is_learned();
+    input_grows();
+    input_is_chosen();
+    values_are_learned();
+    output_only_grows();
+    prefixes_are_ordered();
+    spelling_is_read();
+}
+
+/// Fair runs go on. In each endless run in which one node leads a majority, and what the nodes of
+/// the majority send to each other is heard, each key that waits at one of them is read by all of
+/// them, and each byte that the program writes on what was read comes to the console.
+pub fn fair_runs_go_on()
+    ensures { (p : Parts) (group : Group) → IsSize group.size → IsGroup group
+        → FairRunsGoOn p group }
+{
+    deeds_keep_it_sound();
+    deeds_keep_order();
+    sound_worlds_agree();
+    what_goes_out_fits();
+    waiting_keys_are_a_row();
+    calls_keep_what_is_learned();
+    input_grows();
+    key_tests_are_exact();
+    keys_are_read_once();
+    learned_stays();
+    one_front();
+    values_are_learned();
+    spelling_is_read();
+    tests_are_exact();
+    input_is_chosen();
+    output_only_grows();
+    prefixes_are_ordered();
+}
+
+/// Some run is led and fair, for each program and each group: the premises of the laws of fair runs
+/// can be met.
+pub fn some_run_is_fair()
+    ensures { (p : Parts) (group : Group) → IsSize group.size → IsGroup group → HasFairRun p group }
+{
+    deeds_keep_it_sound();
+    deeds_keep_order();
+    what_goes_out_fits();
+    one_front();
+    spelling_is_read();
+    tests_are_exact();
+}
+
+/// Fair runs need ticks: in some run that is led, all that the nodes of the majority send to each
+/// other is heard, but nobody ticks, and a key that waits is never read.
+pub fn fair_runs_need_ticks()
+    ensures { (p : Parts) (group : Group) → IsSize group.size → IsGroup group
+        → HasStuckRun IsLedCalmly HearsAll p group }
+{
+    deeds_keep_it_sound();
+    deeds_keep_order();
+    what_goes_out_fits();
+    waiting_keys_are_a_row();
+    one_front();
+    spelling_is_read();
+    tests_are_exact();
+}
+
+/// Fair runs need each kind of message: in some run that is led, all nodes tick again and again and
+/// all but the Submits is heard, and a key that waits is never read.
+pub fn fair_runs_need_submits()
+    ensures { (p : Parts) (group : Group) → IsSize group.size → IsGroup group
+        → HasStuckRun IsLedCalmly HearsAllButSubmits p group }
+{
+    deeds_keep_it_sound();
+    deeds_keep_order();
+    what_goes_out_fits();
+    waiting_keys_are_a_row();
+    one_front();
+    spelling_is_read();
+    tests_are_exact();
+}
+
+/// Fair runs need peace: in some run of a group of three or more that is fair, and led but for an
+/// old Prepare that is heard, a key that waits is never read.
+pub fn fair_runs_need_peace()
+    ensures { (p : Parts) (group : Group) → IsSize group.size → IsGroup group → 1 < group.size
+        → HasStuckRun IsLedOpenly HearsAndTicks p group }
+{
+    deeds_keep_it_sound();
+    deeds_keep_order();
+    what_goes_out_fits();
+    waiting_keys_are_a_row();
+    one_front();
+    spelling_is_read();
+    tests_are_exact();
+}
