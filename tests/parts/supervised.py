@@ -27,15 +27,15 @@ def send_signal(pid, number):
 class Supervised(Running):
     """A node of the echo under a supervisor, and their files in a folder."""
 
-    def __init__(self, number, folder, nodes, beats, keys, silent=3.0, around=()):
+    def __init__(self, number, folder, nodes, beats, keys, silent=3.0, around=(), disk=None):
         """`nodes` and `beats` have the addresses of the group, in order, and `keys` is the node's
         own. `around` are words that come before each command, such as those that lead it into a
-        namespace."""
+        namespace. The record and the console are in the folder `disk`, if it is given."""
         self.number, self.folder, self.around = number, folder, list(around)
         self.env = ASKED
         self.nodes, self.beats, self.keys = nodes, beats, keys
-        self.record = os.path.join(folder, f"record{number}")
-        self.console = os.path.join(folder, f"console{number}")
+        self.record = os.path.join(disk or folder, f"record{number}")
+        self.console = os.path.join(disk or folder, f"console{number}")
         self.errors = os.path.join(folder, f"errors{number}")
         # How much of what they say was read, and how many starts of the node that has.
         self.read = self.started = 0
@@ -63,11 +63,16 @@ class Supervised(Running):
         self.begin(*more)
         await_that(self.is_up, f"the supervisor has started node {self.number}")
 
-    def is_up(self):
+    def is_bound(self):
         return dropped_at(self.keys[1]) is not None
 
+    def is_up(self):
+        """Whether the node can be typed at. Before it is started its supervisor tries whether the
+        ports are free, and has them for a moment."""
+        return self.is_bound() and self.node() is not None
+
     def is_down(self):
-        return dropped_at(self.nodes[self.number - 1][1]) is None and not self.is_up()
+        return dropped_at(self.nodes[self.number - 1][1]) is None and not self.is_bound()
 
     def node(self):
         """Returns the node's process, or None."""
@@ -122,10 +127,11 @@ def last_leader(group):
     return group[number - 1]
 
 
-def group_of(size, folder, silent=3.0):
+def group_of(size, folder, silent=3.0, disk=None):
     """Returns the nodes of a group of this size on this machine, none of them started."""
     addresses = free_addresses(3 * size)
     nodes, beats, keys = addresses[:size], addresses[size : 2 * size], addresses[2 * size :]
     return [
-        Supervised(it, folder, nodes, beats, keys[it - 1], silent) for it in range(1, size + 1)
+        Supervised(it, folder, nodes, beats, keys[it - 1], silent, disk=disk)
+        for it in range(1, size + 1)
     ]

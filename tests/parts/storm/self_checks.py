@@ -1,17 +1,18 @@
 """Tries tests/storm itself: each finding is named where what is shown was changed by hand, and
 scripts are made small for a condition that was made up."""
 
-import functools
 import random
 
 from shared.replica.script import SETTLE, Event
 from shared.replica.shown import NodeLine, Shown
 
 from ..checks import expect
-from .checks import Case, finding_of
-from .make import Storm
-from .play import End, Learned, Play, play_again
-from .small import Small, least_of
+from ..findings import Case, finding_of
+from ..plays import End, Learned, Play, play_again
+from ..small import Small, least_of
+from ..storms import Storm
+from ..trials import finding_in
+from .end import end_play, ending_of
 
 # Of a group of three: h and jk were typed at node 2, and i at node 3. The h was chosen twice.
 TYPED = {(2, 1, 1): ord("h"), (2, 1, 2): ord("j"), (2, 1, 3): ord("k"), (3, 1, 1): ord("i")}
@@ -35,7 +36,7 @@ def case_of(console=CONSOLE, places=None, known=4, typed=None, waiting=()):
         for it in shows
     ]
     learned = [Learned(20 + it, 2, 1, it, value) for it, value in places.items()]
-    return Case(shows, [], typed or TYPED, learned, blank, [], End(1, [*WAITING, *waiting]))
+    return Case(shows, [], typed or TYPED, learned, blank, [], End(1, [*WAITING, *waiting], (2, 3)))
 
 
 def with_console(case, show, node, console):
@@ -68,6 +69,9 @@ def changed_cases():
     yield "wrong output", with_console(case_of(), 1, 3, CONSOLE + b"\0")
     yield "key read twice", case_of(b"> hihjk")
     yield "false front", case_of(known=5)
+    case = case_of()
+    case.shows[1].nodes[3] = case.shows[1].nodes[3]._replace(is_up=False)
+    yield "is down", case
     yield "hole stays", case_of(b"> h", without(PLACES, 1), 1)
     yield "hole stays", case_of(known=3)
     waits = {**TYPED, (3, 1, 2): ord("w")}
@@ -112,7 +116,8 @@ def check_renumbered(_folder):
     for line in lines:
         play.line(line)
     items = play.items(len(lines))
-    again, done = play_again(3, 7, items[:2] + items[3:])
+    again = Play(3, 7)
+    done = play_again(again, items[:2] + items[3:])
     wanted = [lines[0], lines[1], lines[3], SETTLE, Event("deliver", 2, 0)]
     expect("a message has its new number", again.lines == wanted, again.lines)
     expect("and without its line it is left out", done == items[:2] + items[3:6], done)
@@ -127,12 +132,12 @@ def crashes_late(play):
     ) or None
 
 
-def check_small(_folder, finding_in):
+def check_small(_folder):
     """A script with the made-up finding, made small: no line of it can be left out, and it is one
     of `sim`."""
-    storms = (Storm(random.Random(seed), 2000).make() for seed in range(1000))
+    storms = (Storm(random.Random(seed), 2000, ending_of).make() for seed in range(1000))
     storm = next(it for it in storms if it.group.size == 3 and crashes_late(it.play))
-    small = Small(storm, crashes_late)
+    small = Small(storm, crashes_late, end_play)
     play = small.make()
     expect("what was made up still holds", crashes_late(play))
     fewer = [small.items[:at] + small.items[at + 1 :] for at in range(len(small.items))]
@@ -141,7 +146,7 @@ def check_small(_folder, finding_in):
     sizes = len(storm.play.lines), len(play.lines)
     expect("of {} lines {} are left".format(*sizes), sizes[1] < 100 < sizes[0], play.text())
     expect("all holds of it in sim", finding_in(play) is None)
-    tried = Small(storm, crashes_late, most_tries=20)
+    tried = Small(storm, crashes_late, end_play, most_tries=20)
     play, tries = tried.make(), tried.tries
     is_so = tries == 20 and not tried.is_least() and crashes_late(play)
     expect("it ends after as many tries as there may be", is_so, tries)
@@ -149,15 +154,15 @@ def check_small(_folder, finding_in):
 
 def check_same(_folder):
     """A seed is always the same script, also where nothing of it is left out."""
-    storms = [Storm(random.Random(seed), 200).make() for seed in (1, 1, 2)]
+    storms = [Storm(random.Random(seed), 200, ending_of).make() for seed in (1, 1, 2)]
     texts = [it.play.text() for it in storms]
     expect("the same seed makes the same script", texts[0] == texts[1] != texts[2])
     for it in storms[1:]:
-        again = play_again(it.group.size, it.group.session, it.items)[0]
+        again = it.play.again()
+        play_again(again, it.items)
         expect("with all its lines a script is the same", again.text() == it.play.text())
 
 
-def self_checks(finding_in):
-    """The checks of this file, each a function of a folder; `finding_in` is that of tests/storm."""
-    small = functools.partial(check_small, finding_in=finding_in)
-    return check_kinds, check_least, check_renumbered, small, check_same
+def self_checks():
+    """The checks of this file, each a function of a folder."""
+    return check_kinds, check_least, check_renumbered, check_small, check_same

@@ -2,6 +2,7 @@
 apart from the program."""
 
 import collections
+import struct
 
 from ..record import LAST_SERIAL, MOST_KEYS, PLACES, Ballot, Batch
 
@@ -11,6 +12,10 @@ Message = collections.namedtuple("Message", "kind sender fields")
 # How many votes a promise has at most, and the kinds by their numbers, from 1 on.
 MOST_VOTES = 8
 KINDS = ("prepare", "promise", "accept", "accepted", "refused", "submit", "ask", "tell")
+
+# A datagram's head, a number, a ballot, and a batch without its characters.
+HEAD, NUMBER = struct.Struct(">2sBBBBI"), struct.Struct(">I")
+BALLOT, VALUE = struct.Struct(">IB"), struct.Struct(">BBIIB")
 
 
 def kind_of(data):
@@ -137,29 +142,38 @@ def number(value, size):
     return value.to_bytes(size, "big")
 
 
-def spelled(name, field):
-    """The bytes of a field."""
-    if name in ("ballot", "promised"):
-        return number(field[0], 4) + number(field[1], 1)
-    if name == "value":
-        if field is None:
-            return b"\0"
-        head = bytes([1, field.node]) + number(field.start, 4) + number(field.first, 4)
-        return head + bytes([len(field.characters)]) + field.characters
-    if name == "votes":
-        return bytes([len(field)]) + b"".join(vote_bytes(*it) for it in field)
-    return number(field, 4)
+def ballot_bytes(ballot):
+    return BALLOT.pack(*ballot)
 
 
-def vote_bytes(place, ballot, value):
-    return spelled("place", place) + spelled("ballot", ballot) + spelled("value", value)
+def value_bytes(value):
+    if value is None:
+        return b"\0"
+    node, start, first, characters = value
+    return VALUE.pack(1, node, start, first, len(characters)) + characters
+
+
+def vote_bytes(vote):
+    place, ballot, value = vote
+    return NUMBER.pack(place) + ballot_bytes(ballot) + value_bytes(value)
+
+
+def votes_bytes(votes):
+    return bytes([len(votes)]) + b"".join(map(vote_bytes, votes))
+
+
+# How a field is spelled that is no number of four bytes.
+SPELLING = {
+    "ballot": ballot_bytes, "promised": ballot_bytes, "value": value_bytes, "votes": votes_bytes,
+}
 
 
 def bytes_of(message, size, session):
     """The datagram of a message."""
-    kind = KINDS.index(message.kind) + 1
-    head = b"PG" + bytes([2, kind, message.sender, size]) + number(session, 4)
-    return head + b"".join(spelled(name, field) for name, field in message.fields.items())
+    data = HEAD.pack(b"PG", 2, KINDS.index(message.kind) + 1, message.sender, size, session)
+    for name, field in message.fields.items():
+        data += SPELLING.get(name, NUMBER.pack)(field)
+    return data
 
 
 def value_text(value):

@@ -1,225 +1,261 @@
 """Puts the traces of a group into one order, in which each message was sent before it was heard,
-and follows it call by call with a group apart from the program (`group.py`)."""
+and follows it call by call with a group apart from the program (`group.py`). The traces are read
+once, side by side, and of what was read only that is kept which is still needed."""
 
 import collections
 
 from ..record import Damaged, Record, record_of
 from . import trace
-from .group import Group
+from .datagram import BytesRefused, message_of
+from .follower import Follower, files_of, has_grown
+from .group import Group, Sent
+from .messages import Messages
 from .protocol import ALL
 from .script import Event
 
-# A call in the one order: its event, what happened, and the call itself, which is None for the
-# crash at the end of a process.
-Step = collections.namedtuple("Step", "event happened call")
 # The record of a node that was never started, as far as it matters here.
 EMPTY = Record(2, 0, 0, 0, 0, None, {})
-# An equal message that was not heard before is taken only if fewer than so many were sent after it:
-# an older one was lost, and it is the last that came twice.
-RECENT = 60
+# For how many steps of others a node waits for a message, before it is looked for among those that
+# were sent long ago.
+PATIENCE = 2000
 KINDS = {"start": "start", "campaign": "campaign", "tick": "tick", "run": "run",
-         "release": "release", "press": "type", "hear": "deliver"}
+         "release": "release", "press": "type"}
 
 
 class Differs(Exception):
     """Where a trace is not what a group does, and how."""
 
 
-class Follower:
-    """A node: its processes, and up to which call they are followed."""
+class Cut(Differs):
+    """Where a trace has lost lines. By a record that is known from the call that was followed last:
+    the process of that call, and whether it is its start."""
 
-    def __init__(self, number, processes):
-        self.number, self.processes = number, processes
-        self.process, self.call, self.done = 0, 0, 0
-        self.console = bytearray()
-        self.released = 0
+    def __init__(self, text, process=None, is_start=False):
+        super().__init__(text)
+        self.process, self.is_start = process, is_start
 
-    def where(self, call=None):
-        process = self.processes[min(self.process, len(self.processes) - 1)]
-        return f"{process.path}:{(call or process).at}"
-
-    def now(self):
-        """The process that is followed, or None at the end."""
-        it = self.process
-        return self.processes[it] if it < len(self.processes) else None
-
-    def next_call(self):
-        process = self.now()
-        if process is None or self.call == len(process.calls):
-            return None
-        return process.calls[self.call]
-
-    def starts_begun(self):
-        """How many of the node's next processes have only begun to start, up to one that has."""
-        count = 0
-        for process in self.processes[self.process + 1 :]:
-            if any(it.kind == "start" and it.is_done for it in process.calls):
-                break
-            count += any(it.kind == "start" for it in process.calls)
-        return count
-
-    def next_start(self):
-        """The start of the node's next process that has one, or None."""
-        for process in self.processes[self.process + 1 :]:
-            for call in process.calls:
-                if call.kind == "start" and call.is_done:
-                    return call
-        return None
+    def place(self):
+        return self.process.path, self.process.at
 
 
 class Following:
-    """The traces of the nodes of a group. `records` has what is on the disk at the end, of the
-    nodes of which that is known."""
+    """The traces of the nodes of a group, by the paths of their files. `records` has what is on the
+    disk at the end, of the nodes of which that is known."""
 
-    def __init__(self, processes, records):
-        first = processes[0]
-        self.group = Group(first.size, first.session)
+    def __init__(self, paths, records, keeps_all=False):
+        files = files_of(paths)
+        if not files:
+            raise Differs("the traces are empty")
+        self.followers = {it: Follower(it, files[it]) for it in sorted(files)}
+        first = self.first = next(iter(files.values()))[0].process
+        self.messages = Messages(keeps_all)
+        self.group = Group(first.size, first.session, sent=self.messages)
         self.records = records
-        by_node = collections.defaultdict(list)
-        for it in processes:
-            if (it.size, it.session) != (first.size, first.session):
-                raise Differs(f"{it.path}:{it.at}: is of another group than {first.path}")
-            by_node[it.node].append(it)
-        self.followers = {it: Follower(it, by_node[it]) for it in sorted(by_node)}
-        self.check_heard(processes)
-        self.numbers = {}  # of the datagrams sent, with whom they are for, their numbers
-        self.heard = set()  # pairs of a node and the number of a message that it has heard
-        self.starts = 0
+        self.active = list(self.followers.values())
+        self.late = {it.number: it.first for it in self.active if it.first is not None}
+        self.waiting = collections.defaultdict(list)  # by what they wait for
+        self.starts = self.count = 0
+        self.events = {}  # those without a message, by what they are
+        for it in self.active:
+            self.check_group(it)
+            self.note_next(it)
+
+    def check_group(self, follower):
+        it, first = follower.process, self.first
+        if it is not None and (it.size, it.session) != (first.size, first.session):
+            raise Differs(f"{it.path}:{it.at}: is of another group than {first.path}")
 
     # The order.
 
     def steps(self):
-        """Yields all steps. Of the nodes that can go on the one goes on whose next call has the
-        least time, or that has done least. Differs where none can, or one does not do as it
-        should."""
+        """Yields all steps: the event, what happened, and the call, which is None for the crash at
+        the end of a process. Of the nodes that can go on the one goes on whose next call has the
+        least time, or that has done least. It ends where none can. Differs where one does not do as
+        it should."""
         while True:
-            ready = [it for it in self.followers.values() if self.is_ready(it)]
-            if not ready:
-                break
-            yield from self.step(min(ready, key=self.rank))
-        blocked = [it for it in self.followers.values() if it.now() is not None]
-        if blocked:
-            # The others may wait for one that waits for itself.
-            first = min(blocked, key=lambda it: it.next_call().data[4] != it.number)
-            why = "was sent only after that"
-            raise Differs(text_of_heard(first.now(), first.next_call(), why))
+            self.count += 1
+            follower = self.next_follower()
+            if follower is None or self.count % PATIENCE == 0:
+                self.look_back(follower is None)
+                follower = follower or self.next_follower()
+                if follower is None:
+                    return
+            step = self.step(follower)
+            self.note_next(follower)
+            if step is not None:
+                if self.waiting:
+                    self.wake(step[1].sends)
+                yield step
 
-    @staticmethod
-    def rank(follower):
-        call = follower.next_call()
-        time = call.time if call is not None and call.time is not None else 0
-        return time, follower.done, follower.number
+    def next_follower(self):
+        best = None
+        for it in self.active:
+            if not it.waits and (best is None or it.rank < best.rank):
+                best = it
+        return best
 
-    def is_ready(self, follower):
-        if follower.now() is None:
+    def note_next(self, follower):
+        """Notes whether a node can go on, and when it is its turn."""
+        call = follower.call
+        if follower.process is None:
+            self.active.remove(follower)
+        elif call is None:
+            follower.rank = 0, follower.done, follower.number
+        else:
+            follower.rank = call.time or 0, follower.done, follower.number
+            if call.kind == "hear" and not self.messages.is_kept(follower.number, call.data):
+                follower.waits, follower.since = True, self.count
+                if self.late and self.is_from_before(call) and self.believe(follower):
+                    return
+                if not follower.is_late or not self.recall(follower):
+                    follower.is_late = False
+                    self.waiting[call.data].append(follower)
+
+    def wake(self, numbers):
+        """Lets those go on that have waited for these messages."""
+        for number in numbers:
+            sent = self.messages[number]
+            for it in self.waiting.get(sent.data, ()):
+                if it.call.data == sent.data and sent.to in (ALL, it.number):
+                    it.waits = False
+            if not any(it.waits for it in self.waiting.get(sent.data, ())):
+                self.waiting.pop(sent.data, None)
+
+    def look_back(self, are_all):
+        """Looks for the messages of those who wait for long, or of all, among those sent long
+        ago."""
+        for it in self.active:
+            if it.waits and (are_all or it.since + PATIENCE <= self.count):
+                it.is_late = self.recall(it)
+                it.since = self.count
+        waiting = [it for it in self.blocked() if it.call.data[4] in self.late]
+        if are_all and waiting and len(self.blocked()) == len(self.active):
+            self.believe(min(waiting, key=lambda it: it.rank))
+
+    def is_from_before(self, call):
+        """Whether a message was heard before the trace of its sender begins, of which the first
+        part is gone."""
+        first = self.late.get(call.data[4] if trace.is_datagram(call.data) else None)
+        return first is not None and (call.time or 0) < (first.begun or 0)
+
+    def believe(self, follower):
+        """Takes for sent what was heard of a node of whose trace the first part is gone. Whether it
+        is a message."""
+        data = follower.call.data
+        try:
+            message = message_of(data, self.group.size, self.group.session)
+        except BytesRefused:
             return False
-        call = follower.next_call()
-        return call is None or call.kind != "hear" or self.number_of(follower, call) is not None
+        self.messages.extend([Sent(follower.number, message, data)])
+        follower.waits = False
+        return True
 
-    def number_of(self, follower, call):
-        """The number of the message that was heard, or None where it was not sent yet. Of equal
-        ones it is the last that the node has not heard, if it is a recent one, or else the last."""
-        to_all = self.numbers.get((ALL, call.data), [])
-        numbers = to_all or self.numbers.get((follower.number, call.data), [])
-        for number in reversed(numbers):
-            if number + RECENT < len(self.group.sent):
-                break
-            if (follower.number, number) not in self.heard:
-                return number
-        return numbers[-1] if numbers else None
+    def recall(self, follower):
+        """Whether the message that a node waits for was sent long ago. It need wait no more
+        then."""
+        data = follower.call.data
+        try:
+            message = message_of(data, self.group.size, self.group.session)
+        except BytesRefused:
+            return False
+        follower.recalled = self.messages.recall(follower.number, Sent(ALL, message, data))
+        follower.waits = follower.recalled is None
+        return not follower.waits
 
-    def check_heard(self, processes):
-        """Says first where a message was heard that nobody has sent to its node: that is what no
-        loss, delay or fault of a disk explains."""
-        calls = [(it, call) for it in processes for call in it.calls]
-        sent = {(to, data) for _, call in calls for to, data in call.sends}
-        unsent = [
-            (process, call) for process, call in calls if call.kind == "hear"
-            and not {(trace.ALL, call.data), (process.node, call.data)} & sent
-        ]
-        if unsent:
-            (process, call), more = unsent[0], len(unsent) - 1
-            others = f"; so it is with {more} more" if more else ""
-            heard = text_of_heard(process, call, "nobody sent to it in these traces")
-            raise Differs(heard + others)
+    def blocked(self):
+        """The nodes that could not be followed to the end, once no node can go on."""
+        return [it for it in self.active if it.waits]
 
     # One step.
 
     def step(self, follower):
-        call = follower.next_call()
+        call = follower.call
         if call is None:
-            yield from self.end_process(follower)
-            return
-        follower.call += 1
-        follower.done += 1
+            return self.end_process(follower)
         if call.kind == "start":
             self.check_start(follower, call)
         if not call.is_done:
-            yield from self.undone(follower, call)
-            return
+            step = self.undone(follower, call)
+            follower.advance()
+            return step
+        if (self.group.nodes[follower.number] is not None) == (call.kind == "start"):
+            state = "not started" if call.kind != "start" else "up"
+            raise Differs(f"{follower.where(call)}: {call.kind} of a node that is {state}")
         event = self.event_of(follower, call)
-        self.check_up(follower, call, event)
-        if call.kind == "hear":
-            self.heard.add((follower.number, event.number))
-        happened = self.group.apply(event)
-        self.check_call(follower, call, event, happened)
-        yield Step(event, happened, call)
+        happened = self.group.do(event)
+        if call.kind == "release":
+            self.check_release(follower, call)
+        elif call.sends or happened.sends or happened.refused:
+            self.check_call(follower, call, happened)
+        follower.advance()
+        return event, happened, call
 
     def end_process(self, follower):
         """A process has ended: its node is down, unless it is the last one and may still run."""
-        calls, is_last = follower.now().calls, follower.process + 1 == len(follower.processes)
-        is_ended = follower.now().status is not None or calls and not calls[-1].is_done
-        is_known = not is_last or is_ended
-        follower.process, follower.call = follower.process + 1, 0
+        is_known = follower.is_over()
+        follower.next_process()
+        self.check_group(follower)
         if is_known and self.group.is_up(follower.number):
             event = Event("crash", follower.number)
-            yield Step(event, self.group.apply(event), None)
+            return event, self.group.apply(event), None
+        return None
 
     def event_of(self, follower, call):
-        amount = {"press": call.byte, "run": call.number}.get(call.kind)
         if call.kind == "hear":
-            amount = self.number_of(follower, call)
-        return Event(KINDS[call.kind], follower.number, amount)
+            return Event("deliver", follower.number, self.number_of(follower, call))
+        amount = call.byte if call.kind == "press" else call.number if call.kind == "run" else None
+        of = call.kind, follower.number, amount
+        event = self.events.get(of)
+        if event is None:
+            event = self.events[of] = Event(KINDS[call.kind], *of[1:])
+        return event
 
-    def check_up(self, follower, call, event):
-        is_up = self.group.is_up(follower.number)
-        if is_up == (event.kind == "start"):
-            state = "up" if is_up else "not started"
-            raise Differs(f"{follower.where(call)}: {call.kind} of a node that is {state}")
+    def number_of(self, follower, call):
+        """The number of the message that was heard."""
+        number, follower.recalled = follower.recalled, None
+        if number is None:
+            number = self.messages.number_of(follower.number, call.data)
+        if number is None:  # It was let go while the node could have gone on.
+            self.recall(follower)
+            number, follower.recalled = follower.recalled, None
+        return number
 
     def undone(self, follower, call):
         """A call that was begun and not done, or whose save has failed: it is done as a save that
         failed, if it saves, with the outcome that the next record of the node says."""
-        outcome = self.outcome_of(follower, call)
+        if follower.number in self.late and not self.group.stored[follower.number].starts:
+            return None  # Over which record is not known yet.
+        event = self.event_of(follower, call)
+        outcome = self.outcome_of(follower, call, event)
         if outcome is None:
             if call.has_failed:
                 where = follower.where(call)
                 raise Differs(f"{where}: the {call.kind} saves nothing that can fail")
-            return
-        event = self.event_of(follower, call)._replace(outcome=outcome)
-        yield Step(event, self.group.apply(event), call)
+            return None
+        event = event._replace(outcome=outcome)
+        return event, self.group.apply(event), call
 
-    def outcome_of(self, follower, call):
+    def outcome_of(self, follower, call, event):
         """`failold` or `failnew`, or None where the call saves nothing."""
-        change = self.group.change_of(self.event_of(follower, call))
+        change = self.group.change_of(event)
         if change is None:
             return None
-        after, stored = self.record_after(follower), self.group.stored[follower.number]
+        start, more = follower.look_ahead()
+        after, stored = self.record_after(follower, start), self.group.stored[follower.number]
         # Starts that were only begun come before that record too, and each may have been counted.
-        more = follower.starts_begun()
         if after is None or stored.equals_started(after, 0, 0 if call.kind == "start" else more):
             return "failold"
         if stored.equals_changed(change, after, more):
             return "failnew"
-        raise Differs(
+        text = (
             f"{follower.where(call)}: node {follower.number} began a {call.kind}, and its next "
             "record is neither the one before the save nor the one after it"
         )
+        raise Cut(text, follower.process) if has_grown(stored, after) else Differs(text)
 
-    def record_after(self, follower):
+    def record_after(self, follower, start):
         """The node's next record: that of its next start, or the one on the disk; None where
         neither is known."""
-        start = follower.next_start()
         if start is None:
             return self.records.get(follower.number)
         return self.read_record(follower, start)
@@ -237,48 +273,47 @@ class Following:
         if not call.is_done:
             return
         self.starts += 1
-        if not self.group.stored[follower.number].equals(self.read_record(follower, call)):
-            why = "it is not what the calls before it have saved"
-            if self.starts_new(follower):
-                why = "a trace begins with the first start of its node in the session"
-            raise Differs(f"{follower.where(call)}: the record of node {follower.number}: {why}")
+        record, stored = self.read_record(follower, call), self.group.stored[follower.number]
+        if stored.equals(record):
+            return
+        where = f"{follower.where(call)}: the record of node {follower.number}"
+        if stored.starts == 0 and follower.number in self.late:
+            stored.take(record)
+            return
+        if stored.starts == 0:
+            why = "a trace begins with the first start of its node in the session"
+            raise Differs(f"{where}: {why}")
+        text = f"{where}: it is not what the calls before it have saved"
+        is_cut = has_grown(stored, record)
+        raise Cut(f"{text}, but more", follower.process, True) if is_cut else Differs(text)
 
-    def starts_new(self, follower):
-        return self.group.stored[follower.number].starts == 0
-
-    def check_call(self, follower, call, event, happened):
-        where = follower.where(call)
+    def check_call(self, follower, call, happened):
         if happened.refused:
+            where = follower.where(call)
             raise Differs(f"{where}: {call.kind} is refused by {happened.refused}")
-        if call.kind == "release":
-            self.check_release(follower, call)
-        sent = [(it.to or trace.ALL, it.data) for it in self.sent_by(happened)]
-        for number, it in zip(happened.sends, self.sent_by(happened)):
-            self.numbers.setdefault((it.to, it.data), []).append(number)
+        came, numbers = call.sends, happened.sends
+        sent = [(it.to or trace.ALL, it.data) for it in map(self.messages.__getitem__, numbers)]
         # What follows a call that was the last of its process may be cut off.
-        is_cut = follower.now().status is None and follower.next_call() is None
-        came = call.sends
-        if came != sent and not (is_cut and came == sent[: len(came)]):
-            raise Differs(f"{where}: {difference_of(sent, came, happened.sends)}")
-
-    def sent_by(self, happened):
-        return [self.group.sent[it] for it in happened.sends]
+        may_lack = follower.is_last() and follower.process.status is None
+        if came != sent and not (may_lack and came == sent[: len(came)]):
+            raise Differs(f"{follower.where(call)}: {difference_of(sent, came, numbers)}")
 
     def check_release(self, follower, call):
         """Bytes are released from 0 on in each start, and each start releases the same."""
-        where, console = follower.where(call), follower.console
+        console = follower.console
         if call.number != follower.released:
+            where = follower.where(call)
             raise Differs(f"{where}: byte {call.number} is released after {follower.released}")
         follower.released += 1
         if call.number == len(console):
             console.append(call.byte)
         elif console[call.number] != call.byte:
-            before = console[call.number]
+            where, before = follower.where(call), console[call.number]
             raise Differs(f"{where}: byte {call.number} is {call.byte}, and was {before} before")
 
 
 def text_of_heard(process, call, why):
-    source = f" from {call.source}" if call.source else ""
+    source = f" from {call.source.decode('ascii', 'replace')}" if call.source else ""
     heard = f"{process.path}:{call.at}: node {process.node} heard{source} what {why}"
     return f"{heard}: {call.data.hex().upper()}"
 

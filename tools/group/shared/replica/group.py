@@ -11,9 +11,12 @@ from .stored import Stored
 # A message that was sent: to ALL or to a node, and as the bytes of its datagram.
 Sent = collections.namedtuple("Sent", "to message data")
 # What an event did: the change that was saved, or that could not be; the numbers of the messages
-# sent; the places and values learned; what the node refused; and whether anything changed at all.
-Happened = collections.namedtuple("Happened", "saved sends learned refused is_news")
-NOTHING = Happened(None, range(0), (), None, True)
+# sent; the places and values learned; what the node refused; whether the node has changed; and
+# whether anything came of it at all.
+Happened = collections.namedtuple("Happened", "saved sends learned refused has_changed is_news")
+NONE = range(0)
+NOTHING = Happened(None, NONE, (), None, True, True)
+QUIET = NOTHING._replace(has_changed=False, is_news=False)
 
 MOST_DELIVERIES = 10000
 RUN_STEPS = 1000
@@ -24,11 +27,14 @@ class GroupRefused(Exception):
 
 
 class Group:
-    def __init__(self, size, session):
-        self.size, self.session = size, session
+    """A group of nodes that go by these rules, a class like Protocol. `sent` has the messages by
+    their numbers: a list, if it is not given."""
+
+    def __init__(self, size, session, rules=Protocol, sent=None):
+        self.size, self.session, self.rules = size, session, rules
         self.stored = {it: Stored() for it in range(1, size + 1)}
         self.nodes = dict.fromkeys(self.stored)  # of each that is up its Protocol
-        self.sent = []
+        self.sent = [] if sent is None else sent
         self.passed = 0  # the messages before this one were passed by a settle
 
     def is_up(self, number):
@@ -40,45 +46,60 @@ class Group:
             raise GroupRefused("V2")
         if event.kind == "deliver" and event.number >= len(self.sent):
             raise GroupRefused("V3")
-        if self.is_up(event.node) and event.kind == "start":
-            raise GroupRefused("V5")
-        if not self.is_up(event.node) and event.kind != "start":
+        if event.kind == "start":
+            if self.nodes[event.node] is not None:
+                raise GroupRefused("V5")
+        elif self.nodes[event.node] is None:
             raise GroupRefused("V4")
 
     def apply(self, event):
         """Does an event, and returns what happened."""
         self.check(event)
+        return self.do(event)
+
+    def do(self, event):
+        """Does an event that can happen."""
+        kind = event.kind
+        if kind in ("run", "release"):
+            return QUIET
         node = self.nodes[event.node]
-        if event.kind == "crash":
+        if kind == "crash":
             self.nodes[event.node] = None
             return NOTHING
-        if event.kind == "start":
-            node = Protocol(event.node, self.size, self.stored[event.node])
-        before = mark_of(node)
+        if kind == "start":
+            node = self.rules(event.node, self.size, self.stored[event.node])
+        before = node.mark()
         node.learner.news = []
         try:
             change, sends = self.call(node, event)
         except NodeRefused as refused:
             return NOTHING._replace(refused=str(refused))
-        if not self.save(event, change):
+        if change is not None and not self.save(event, change):
             return NOTHING._replace(saved=change)
         self.nodes[event.node] = node
-        first = len(self.sent)
-        self.sent += [Sent(to, it, bytes_of(it, self.size, self.session)) for to, it in sends]
-        is_news = bool(change or sends) or mark_of(node) != before
-        return Happened(change, range(first, len(self.sent)), node.learner.news, None, is_news)
+        has_changed = change is not None or node.mark() != before
+        numbers = self.send(sends) if sends else NONE
+        news = node.learner.news
+        return Happened(change, numbers, news, None, has_changed, has_changed or bool(sends))
+
+    def send(self, sends):
+        """Sends these messages. Returns their numbers."""
+        first, size, session = len(self.sent), self.size, self.session
+        self.sent.extend([Sent(to, it, bytes_of(it, size, session)) for to, it in sends])
+        return range(first, first + len(sends))
 
     def call(self, node, event):
         """What the node's call saves and sends."""
-        if event.kind == "start":
-            return Protocol.starting(self.stored[event.node]), []
-        if event.kind == "campaign":
-            return node.campaign()
-        if event.kind == "tick":
-            return node.tick()
-        if event.kind == "deliver":
+        kind = event.kind
+        if kind == "deliver":
             return node.hear(self.sent[event.number].message)
-        if event.kind == "type":
+        if kind == "tick":
+            return node.tick()
+        if kind == "start":
+            return self.rules.starting(self.stored[event.node]), []
+        if kind == "campaign":
+            return node.campaign()
+        if kind == "type":
             node.type(event.number)
         return None, []
 
@@ -90,14 +111,13 @@ class Group:
             return None
 
     def save(self, event, change):
-        """Saves a change, if there is one. Whether the save succeeded; otherwise the node is down,
-        with the old or the changed record."""
-        is_saved = change is None or event.outcome is None
-        if not is_saved:
-            self.nodes[event.node] = None
-        if change is not None and event.outcome != "failold":
+        """Saves a change. Whether the save succeeded; otherwise the node is down, with the old or
+        the changed record."""
+        if event.outcome != "failold":
             self.stored[event.node].change(change)
-        return is_saved
+        if event.outcome is not None:
+            self.nodes[event.node] = None
+        return event.outcome is None
 
     def addressees(self, number):
         """Whom a message is for."""
@@ -134,10 +154,3 @@ class Group:
                 raise Bad(f"line {line.number} refused {refused}")
             if line.event in (SETTLE, SHOW):
                 yield line, None, None
-
-
-def mark_of(node):
-    """What differs after a message that was news to a node."""
-    it, learner = node.proposer, node.learner
-    asked = it and (it.ballot, sum(it.coverage.values()), it.next())
-    return len(learner.learned), learner.heard, node.remembered, asked

@@ -2,8 +2,9 @@
 the program: all of it but the machine. Each call returns the change that it saves, or None, and the
 messages that it sends, each with whom it is for."""
 
-from ..record import LAST_SERIAL, LAST_START, MOST_KEYS, NOOP, PLACES, Ballot, Batch, keys_in
+from ..record import LAST_SERIAL, LAST_START, MOST_KEYS, NOOP, PLACES, Ballot, Batch
 from .datagram import MOST_VOTES, Message
+from .keys import Keys
 from .stored import Promise, Start, Vote
 
 # Whom a message to all is for.
@@ -23,8 +24,9 @@ class Proposer:
     def __init__(self, ballot, front, size):
         self.ballot, self.first, self.size = ballot, front, size
         self.coverage = {it: front for it in range(1, size + 1)}
-        self.kept = {}
+        self.kept, self.last_kept = {}, -1  # the last place at which a vote was ever kept
         self.proposed = []
+        self.changes = 0  # how often any of this has changed
 
     def next(self):
         return self.first + len(self.proposed)
@@ -36,13 +38,14 @@ class Proposer:
         return self.covers(self.next())
 
     def keeps_above(self, place):
-        """Whether a vote is kept at the place or above it."""
-        return bool(self.kept) and max(self.kept) >= place
+        """Whether a vote is kept at the place or above it. None is kept below the next place."""
+        return self.last_kept >= place
 
     def propose(self, value):
         place = self.next()
         self.proposed.append(value)
         self.kept.pop(place, None)
+        self.changes += 1
         return {"ballot": self.ballot, "place": place, "value": value}
 
     def pump(self):
@@ -64,7 +67,9 @@ class Proposer:
             is_old = place in self.kept and self.kept[place][0] >= ballot
             if place >= covered and place >= self.next() and not is_old:
                 self.kept[place] = (ballot, value)
+                self.last_kept = max(self.last_kept, place)
         self.coverage[sender] = fields["upto"]
+        self.changes += 1
         return True
 
 
@@ -74,9 +79,9 @@ class Learner:
     def __init__(self, size):
         self.size = size
         self.learned, self.front, self.tallies = {}, 0, {}
-        self.known, self.read = set(), set()
+        self.known, self.read = Keys(), Keys()
         self.news = []  # what the last call has learned
-        self.heard = 0  # how many times a tally has changed
+        self.changes = 0  # how often a value was learned, or a tally has changed
 
     def is_open(self, place):
         return place not in self.learned and self.front <= place < self.front + WINDOW
@@ -84,10 +89,11 @@ class Learner:
     def learn(self, place, value):
         self.learned[place] = value
         self.tallies.pop(place, None)
-        self.known.update(keys_in(value))
+        self.known.add(value)
         self.news.append((place, value))
+        self.changes += 1
         while self.front in self.learned:
-            self.read.update(keys_in(self.learned[self.front]))
+            self.read.add(self.learned[self.front])
             self.front += 1
 
     def hear_accepted(self, sender, ballot, place, value):
@@ -99,7 +105,7 @@ class Learner:
         if tally[:2] != (ballot, value) or sender in tally[2]:
             return
         tally[2].add(sender)
-        self.heard += 1
+        self.changes += 1
         if 2 * len(tally[2]) > self.size:
             self.learn(place, value)
 
@@ -118,11 +124,16 @@ class Protocol:
         self.learner = Learner(size)
         self.proposer = None
         self.remembered = None
-        self.offered = set()
+        self.offered = Keys()
         self.waiting, self.first_waiting = [], 1
 
     def leads(self):
         return self.proposer is not None and self.proposer.leads()
+
+    def mark(self):
+        """What differs after a message that was news."""
+        asked = self.proposer and (self.proposer.ballot, self.proposer.changes)
+        return self.learner.changes, self.remembered, asked
 
     def message(self, kind, **fields):
         return Message(kind, self.number, fields)
@@ -154,7 +165,7 @@ class Protocol:
             raise NodeRefused("D12")
         ballot = Ballot(max(rounds, default=0) + 1, self.number)
         self.proposer = Proposer(ballot, self.learner.front, self.size)
-        self.offered = set()
+        self.offered = Keys()
         prepare = self.message("prepare", ballot=ballot, place=self.learner.front)
         return Promise(ballot), [(ALL, prepare)]
 
@@ -184,18 +195,15 @@ class Protocol:
         return Batch(self.number, self.start, self.first_waiting, characters)
 
     def hear(self, message):
-        saved = getattr(self, f"on_{message.kind}")(message.sender, message.fields)
-        self.forget_read()
+        saved = getattr(self, HEARING[message.kind])(message.sender, message.fields)
+        if self.waiting:
+            self.forget_read()
         return saved
 
     def forget_read(self):
         """The first waiting keys that are in the input wait no more."""
-        count = 0
-        for character in self.waiting:
-            key = (self.number, self.start, self.first_waiting + count, character)
-            if key not in self.learner.read:
-                break
-            count += 1
+        read = self.learner.read.first_missing(self.number, self.start, self.first_waiting)
+        count = min(read - self.first_waiting, len(self.waiting))
         del self.waiting[:count]
         self.first_waiting += count
 
@@ -262,9 +270,7 @@ class Protocol:
         return None, []
 
     def on_submit(self, sender, fields):
-        keys = keys_in(fields["value"])
-        is_known = all(it in self.learner.known or it in self.offered for it in keys)
-        if not self.leads() or is_known:
+        if not self.leads() or self.learner.known.have(fields["value"], self.offered):
             return None, []
         it = self.proposer
         made = it.pump()
@@ -272,7 +278,7 @@ class Protocol:
         has_room = len(made) < MOST_PUMPED and place < PLACES and not it.keeps_above(place)
         if has_room and it.covers(place):
             made.append(it.propose(fields["value"]))
-            self.offered.update(keys)
+            self.offered.add(fields["value"])
         return None, self.accepts(made)
 
     def on_ask(self, sender, fields):
@@ -280,3 +286,7 @@ class Protocol:
         end = min(begin + MOST_TOLD, learner.front)
         tells = [(it, learner.learned[it]) for it in range(begin, end)]
         return None, [(sender, self.message("tell", place=at, value=it)) for at, it in tells]
+
+
+# What a node does with a message, by its kind: the name of the call.
+HEARING = {name[len("on_") :]: name for name in vars(Protocol) if name.startswith("on_")}

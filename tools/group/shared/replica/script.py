@@ -19,6 +19,7 @@ ALONE = re.compile(r"(start|crash|campaign|tick|release) (\d+)", re.ASCII)
 RUN = re.compile(r"(run) (\d+) (\d+)", re.ASCII)
 TYPE = re.compile(r"(type) (\d+) ([0-9A-Fa-f]{2})", re.ASCII)
 DELIVER = re.compile(r"(deliver) (\d+) (\d+)", re.ASCII)
+FORMS = {"run": "run {0} {1}", "type": "type {0} {1:02X}", "deliver": "deliver {1} {0}"}
 SIZE = re.compile(r"size (\d+) session (\d+)", re.ASCII)
 
 
@@ -78,17 +79,15 @@ def script_of(data):
     return Script(int(first[1]), int(first[2]), lines)
 
 
+def form_of(kind, outcome):
+    """How the line of an event is written, with its node as {0} and its number as {1}."""
+    form = FORMS.get(kind, kind + " {0}")
+    return f"{form} {outcome}" if outcome else form
+
+
 def text_of_event(event):
     """The line of an event, without its end."""
-    kind, node, amount, outcome = event
-    words = [kind, str(node)]
-    if kind == "deliver":
-        words = [kind, str(amount), str(node)]
-    elif kind == "type":
-        words.append(f"{amount:02X}")
-    elif kind == "run":
-        words.append(str(amount))
-    return " ".join(words + ([outcome] if outcome else []))
+    return form_of(event.kind, event.outcome).format(event.node, event.number)
 
 
 def text_of_script(size, session, events):

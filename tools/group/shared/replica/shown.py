@@ -37,36 +37,64 @@ def run_sim(program, file, script, seconds=None):
     return done.stdout.decode("ascii")
 
 
-def node_line_of(words):
+def sim_lines(program, file, script):
+    """The lines that `sim` prints on a script, an open file that is read from its begin, one after
+    the other. SimFailed where it does not end as it should."""
+    script.seek(0)
+    words = [program, "sim", file, "/dev/stdin"]
+    pipe = subprocess.PIPE
+    process = subprocess.Popen(words, stdin=script, stdout=pipe, stderr=pipe, encoding="utf-8",
+                               errors="replace")
+    try:
+        yield from process.stdout
+        said = process.stderr.read().strip()
+        if process.wait() != 0:
+            raise SimFailed((said or f"status {process.returncode}").split("\n")[0])
+    finally:
+        process.kill()
+        process.communicate()
+
+
+def node_line_of(words, console_of):
     console = b"" if words[8] == "-" else bytes.fromhex(words[8])
-    return NodeLine(words[2] == "up", words[4], words[6], console)
+    return NodeLine(words[2] == "up", words[4], words[6], console_of(console))
 
 
-def shows_of(printed):
-    """All that was shown, one after the other. Lines of what nodes refused are left out."""
-    shows, nodes, places = [], {}, {}
-    for line in printed.splitlines():
-        words = line.split(" ")
+def each_show(lines, console_of=bytes):
+    """All that was shown, one after the other, the consoles as `console_of` has them. Lines of what
+    nodes refused are left out."""
+    nodes, places = {}, {}
+    for line in lines:
+        words = line.rstrip("\n").split(" ")
         if words[0] == "node":
-            nodes[int(words[1])] = node_line_of(words)
+            nodes[int(words[1])] = node_line_of(words, console_of)
         elif words[0] == "place":
             places[int(words[1])] = " ".join(words[2:])
         elif words[0] == "sent":
-            shows.append(Shown(nodes, places, int(words[1])))
+            yield Shown(nodes, places, int(words[1]))
             nodes, places = {}, {}
-    return shows
 
 
-def known_of(group, consoles):
-    """What `sim` should print of a group, with these consoles."""
-    nodes, places = {}, {}
+def shows_of(printed):
+    return list(each_show(printed.splitlines()))
+
+
+def nodes_of(group, consoles):
+    """The lines of nodes that `sim` should print of a group, with these consoles."""
+    nodes = {}
     for number, node in group.nodes.items():
         front = "-" if node is None else str(node.learner.front)
         promised = text_of_ballot(group.stored[number].promised)
         nodes[number] = NodeLine(node is not None, front, promised, consoles[number])
-        if node is not None:
-            places.update((at, value_text(it)) for at, it in node.learner.learned.items())
-    return Shown(nodes, places, len(group.sent))
+    return nodes
+
+
+def known_of(group, consoles):
+    """What `sim` should print of a group, with these consoles."""
+    places = {}
+    for node in filter(None, group.nodes.values()):
+        places.update((at, value_text(it)) for at, it in node.learner.learned.items())
+    return Shown(nodes_of(group, consoles), places, len(group.sent))
 
 
 def difference_of(wanted, came):

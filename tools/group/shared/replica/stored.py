@@ -18,6 +18,11 @@ class Stored:
         self.starts, self.promised = 0, None
         self.votes, self.places = {}, []  # the places with a vote, ascending
 
+    def take(self, record):
+        """Takes over a record that was read (`record.py`)."""
+        self.starts, self.promised = record.starts, record.promised
+        self.votes, self.places = dict(record.votes), sorted(record.votes)
+
     def change(self, change):
         if isinstance(change, Start):
             self.starts += 1

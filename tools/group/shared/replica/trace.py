@@ -1,159 +1,261 @@
 """Reads the trace that a node writes where PGROUP_TRACE names a file, as docs/FORMATS.md describes
-it, and refuses what is none."""
+it, call by call, and refuses what is none."""
 
-import collections
+import binascii
+import os
 import re
 
-from .datagram import kind_of
-
-# A call of a node: its kind, and the bytes heard (and from where), the bytes of the record or None,
-# a character, steps, or the number and the byte of a release. `sends` are pairs of whom a datagram
-# is for and its bytes. `is_done` is false where the call was only begun, and `has_failed` true
-# where its save has failed. `at` is its line, and `time` the milliseconds there, or None.
-Call = collections.namedtuple(
-    "Call", "kind data source number byte sends is_done has_failed at time"
-)
-# One process of a node, with its calls. `status` is how it ended by itself, or None.
-Process = collections.namedtuple("Process", "path at node size session calls status")
-
-NUMBER = r"(\d{1,20})"
-HEX = r"((?:[0-9A-F]{2})+)"
-LINES = {
-    "trace": rf"trace 1 node {NUMBER} size {NUMBER} session {NUMBER}",
-    "begin": rf"begin (?:(start|campaign)|(hear) {HEX})",
-    "start": rf"start (?:{HEX}|-)",
-    "hear": rf"hear (\S+) {HEX}",
-    "press": rf"press {NUMBER}",
-    "campaign": r"campaign",
-    "tick": r"tick",
-    "run": rf"run {NUMBER}",
-    "release": rf"release {NUMBER} {NUMBER}",
-    "send": rf"send (?:(all)|{NUMBER}) {HEX}",
-    "failed": r"failed (start|hear|campaign)",
-    "end": rf"end {NUMBER}",
-}
-LINES = {name: re.compile(pattern, re.ASCII) for name, pattern in LINES.items()}
-FIRST = re.compile(r"(?:@\d{1,15} )?trace 1 node .*", re.ASCII)
-TIMED = re.compile(r"@(\d{1,15}) (.*)", re.ASCII)
+# Whom a datagram to all is for.
 ALL = "all"
+HEAD = re.compile(rb"(?:@(\d{1,15}) )?trace 1 node (\d{1,20}) size (\d{1,20}) session (\d{1,20})")
+HEAD_WORDS = b"trace 1 node "
+LF = 10
+SAVING = {b"start": "start", b"campaign": "campaign"}
 
 
 class Bad(Exception):
     """What is wrong with a trace, and in which line."""
 
 
+class Call:
+    """A call of a node: its kind, and the bytes heard (and from where), the bytes of the record or
+    None, a character, steps, or the number and the byte of a release. `sends` are pairs of whom a
+    datagram is for and its bytes. `is_done` is false where the call was only begun, and
+    `has_failed` true where its save has failed. `at` is its line, and `time` the milliseconds
+    there, or None."""
+
+    __slots__ = (
+        "kind", "at", "time", "data", "source", "number", "byte", "sends", "is_done", "has_failed",
+    )
+
+    def __init__(self, kind, at, time, data=None, source=None, number=None, byte=None):
+        self.kind, self.at, self.time, self.data, self.source = kind, at, time, data, source
+        self.number, self.byte, self.sends = number, byte, []
+        self.is_done, self.has_failed = True, False
+
+
+class Process:
+    """One process of a node. Once all its calls are read, `status` is how it has ended by itself,
+    or None; `last` and `ended` are its last line and the time there, or None; and `torn` is the
+    line that was cut off behind it, or None, and what is wrong with that line."""
+
+    def __init__(self, path, at, time, node, size, session):
+        self.path, self.at, self.node, self.size, self.session = path, at, node, size, session
+        self.begun = self.ended = time
+        self.status, self.last, self.torn = None, at, None
+
+
+def bytes_of_hex(text):
+    """The bytes of HEX. ValueError where it is none."""
+    if not text or text.upper() != text:
+        raise ValueError
+    return binascii.unhexlify(text)
+
+
+def number_of(text):
+    if not text.isdigit() or len(text) > 20:
+        raise ValueError
+    return int(text)
+
+
+def time_of(text):
+    """The time that the first word of a line says, or None where it is none."""
+    if text[:1] != b"@":
+        return None
+    if not text[1:].isdigit() or len(text) > 16:
+        raise ValueError
+    return int(text[1:])
+
+
+def is_datagram(data):
+    return data.startswith(b"PG\x02") and len(data) > 10 and 1 <= data[3] <= 8
+
+
 class Reader:
-    """Takes the lines of a trace one after the other."""
+    """Reads a file line by line. `items` gives each process, and behind it each of its calls, once
+    all that it has sent is read."""
 
     def __init__(self, path):
         self.path, self.at, self.time = path, 0, None
-        self.processes = []
-        self.begun = None  # the call that was begun and not ended
+        self.process, self.call, self.begun, self.is_torn = None, None, None, False
+        self.made = {
+            b"hear": self.on_hear, b"send": self.on_send, b"begin": self.on_begin,
+            b"tick": self.on_tick, b"run": self.on_run, b"release": self.on_release,
+            b"press": self.on_press, b"start": self.on_start, b"campaign": self.on_campaign,
+            b"failed": self.on_failed, b"end": self.on_end,
+        }
 
     def must(self, holds, text):
         if not holds:
             raise Bad(f"{self.path}:{self.at}: {text}")
 
-    def calls(self):
-        self.must(self.processes, "a line before that of a process")
-        return self.processes[-1].calls
+    def items(self):
+        made, clock = self.made, None
+        with open(self.path, "rb") as file:
+            for self.at, line in enumerate(file, 1):
+                if HEAD_WORDS in line and line[-1] == LF and HEAD.search(line):
+                    yield from self.end(line[: HEAD.search(line).start()])
+                    yield self.begin(line)
+                    clock = None
+                    continue
+                if self.is_torn:
+                    continue
+                try:
+                    kind, _, rest = line[: -1 if line[-1] == LF else 0].partition(b" ")
+                    if kind != clock:
+                        self.time = time_of(kind)
+                        clock = kind
+                    if self.time is not None:
+                        kind, _, rest = rest.partition(b" ")
+                    call = made[kind](rest)
+                except (ValueError, KeyError):
+                    self.refuse(line)
+                    continue
+                if call is not None:
+                    yield call
+        self.at += 1
+        yield from self.end(b"")
 
-    def call(self, kind, **more):
-        given = dict.fromkeys(("data", "source", "number", "byte"))
-        given.update(is_done=True, has_failed=False, at=self.at, time=self.time, sends=[])
-        return Call(kind, **{**given, **more})
+    def refuse(self, line):
+        """A line that is none. What was cut off is left, and all behind it up to the next
+        process."""
+        is_cut, is_zeroed = line[-1] != LF, b"\0" in line
+        if not is_cut and not is_zeroed:
+            self.must(False, shown(line))
+        if self.process is not None:
+            self.tear("has zeros" if is_zeroed else "is cut off")
 
-    def add(self, kind, **more):
-        """A call that is done. One that was begun before it and is not this one was refused, and
-        changed nothing."""
-        self.begun = None
-        self.calls().append(self.call(kind, **more))
+    def tear(self, what):
+        """The process has no whole line from here on."""
+        self.note_last()
+        self.process.torn, self.is_torn = (self.at, what), True
 
-    def line(self, text):
-        timed = TIMED.fullmatch(text)
-        self.time, text = (int(timed[1]), timed[2]) if timed else (None, text)
-        name = text.partition(" ")[0]
-        words = LINES[name].fullmatch(text) if name in LINES else None
-        self.must(words, f"this is no line of a trace: {text[:60]}")
-        getattr(self, f"on_{name}")(*words.groups())
+    def note_last(self):
+        """The line before this one was the last of the process."""
+        if not self.is_torn:
+            self.process.last = self.at - 1
+            self.process.ended = self.time or self.process.begun
 
-    def end_process(self):
-        """Notes what the last process had begun when it ended."""
-        if self.begun is not None:
-            self.calls().append(self.begun)
-        self.begun = None
-
-    def on_trace(self, node, size, session):
-        self.end_process()
-        node, size, session = int(node), int(size), int(session)
+    def begin(self, line):
+        found = HEAD.search(line)
+        if found.end() != len(line) - 1:
+            self.must(False, shown(line[found.start() : -1]))
+        time, node, size, session = (it and int(it) for it in found.groups())
         is_one = size in (1, 3, 5, 7, 9) and 1 <= node <= size and session < 2**32
         self.must(is_one, f"node {node} of {size}, session {session}")
-        self.processes.append(Process(self.path, self.at, node, size, session, [], None))
+        self.time = time
+        self.process = Process(self.path, self.at, time, node, size, session)
+        return self.process
 
-    def on_begin(self, kind, hear, data):
-        self.calls()
-        data = bytes.fromhex(data) if data else None
-        self.begun = self.call(kind or hear, data=data, is_done=False)
+    def end(self, before):
+        """The last call of a process, once the line of the next one, which has this before it, or
+        the end has come."""
+        if self.process is not None:
+            if before and not self.is_torn:
+                self.tear("has zeros" if b"\0" in before else "is cut off")
+            self.note_last()
+        left = [it for it in (self.call, self.begun) if it is not None]
+        self.call, self.begun, self.is_torn = None, None, False
+        return left
 
-    def on_start(self, data):
-        self.must(not self.calls(), "a second start of a process")
-        self.add("start", data=bytes.fromhex(data) if data else None)
+    def next_call(self, call):
+        """Notes a call, and returns the one before it. One that was begun before it and is not this
+        one was refused, and changed nothing."""
+        if self.process is None:
+            self.must(False, "a line before that of a process")
+        before, self.call, self.begun = self.call, call, None
+        return before
 
-    def on_hear(self, source, data):
-        self.add("hear", data=bytes.fromhex(data), source=source)
+    # The lines.
 
-    def on_press(self, byte):
-        self.must(int(byte) < 256, f"byte {byte}")
-        self.add("press", byte=int(byte))
+    def on_begin(self, rest):
+        kind, _, data = rest.partition(b" ")
+        self.must(self.process, "a line before that of a process")
+        if kind == b"hear":
+            call = Call("hear", self.at, self.time, bytes_of_hex(data))
+        elif kind in SAVING and not data:
+            call = Call(SAVING[kind], self.at, self.time)
+        else:
+            raise ValueError
+        call.is_done, self.begun = False, call
 
-    def on_campaign(self):
-        self.add("campaign")
+    def on_start(self, rest):
+        self.must(self.call is None, "a second start of a process")
+        data = None if rest == b"-" else bytes_of_hex(rest)
+        return self.next_call(Call("start", self.at, self.time, data))
 
-    def on_tick(self):
-        self.add("tick")
+    def on_hear(self, rest):
+        source, _, data = rest.partition(b" ")
+        if not source:
+            raise ValueError
+        return self.next_call(Call("hear", self.at, self.time, bytes_of_hex(data), source))
 
-    def on_run(self, steps):
-        self.add("run", number=int(steps))
+    def on_press(self, rest):
+        byte = self.byte_of(rest)
+        return self.next_call(Call("press", self.at, self.time, byte=byte))
 
-    def on_release(self, number, byte):
-        self.must(int(byte) < 256, f"byte {byte}")
-        self.add("release", number=int(number), byte=int(byte))
+    def on_campaign(self, rest):
+        return self.alone("campaign", rest)
 
-    def on_send(self, to_all, node, data):
-        self.must(self.calls() and self.begun is None, "nothing was called that could send")
-        data = bytes.fromhex(data)
-        is_one = len(data) > 10 and data[:3] == b"PG\x02" and kind_of(data)
-        self.must(is_one, "what was sent is no datagram")
-        self.calls()[-1].sends.append((ALL if to_all else int(node), data))
+    def on_tick(self, rest):
+        return self.alone("tick", rest)
 
-    def on_failed(self, kind):
+    def alone(self, kind, rest):
+        if rest:
+            raise ValueError
+        return self.next_call(Call(kind, self.at, self.time))
+
+    def on_run(self, rest):
+        return self.next_call(Call("run", self.at, self.time, number=number_of(rest)))
+
+    def on_release(self, rest):
+        number, _, byte = rest.partition(b" ")
+        number, byte = number_of(number), self.byte_of(byte)
+        return self.next_call(Call("release", self.at, self.time, number=number, byte=byte))
+
+    def byte_of(self, text):
+        byte = number_of(text)
+        if byte > 255:
+            self.must(False, f"byte {byte}")
+        return byte
+
+    def on_send(self, rest):
+        if self.call is None or self.begun is not None:
+            self.must(False, "nothing was called that could send")
+        to, _, data = rest.partition(b" ")
+        data, to = bytes_of_hex(data), ALL if to == b"all" else number_of(to)
+        if not is_datagram(data):
+            self.must(False, "what was sent is no datagram")
+        self.call.sends.append((to, data))
+
+    def on_failed(self, rest):
+        kind = rest.decode("ascii", "replace")
+        if kind not in ("start", "hear", "campaign"):
+            raise ValueError
         is_begun = self.begun is not None and self.begun.kind == kind
         self.must(is_begun, f"a {kind} that was not begun has failed")
-        self.calls().append(self.begun._replace(has_failed=True))
-        self.begun = None
+        call = self.begun
+        call.has_failed = True
+        return self.next_call(call)
 
-    def on_end(self, status):
-        self.calls()
-        self.processes[-1] = self.processes[-1]._replace(status=int(status))
-
-
-def processes_of(path, data):
-    """The processes of a trace. What stands behind its last line feed was cut off, and so was what
-    stands before the line of a process, which the next process has appended to it."""
-    reader = Reader(path)
-    for reader.at, line in enumerate(data.split(b"\n")[:-1], 1):
-        text = line.decode("ascii", "replace")
-        begins = FIRST.search(text)
-        reader.line(begins[0] if begins else text)
-    reader.end_process()
-    return reader.processes
+    def on_end(self, rest):
+        self.must(self.process, "a line before that of a process")
+        self.process.status = number_of(rest)
 
 
-def read_trace(path):
-    with open(path, "rb") as file:
-        return processes_of(path, file.read())
+def shown(line):
+    return f"this is no line of a trace: {line[:60].decode('ascii', 'replace')}"
 
 
 def is_trace(data):
     """Whether a file begins as a trace does."""
     return re.match(rb"(@\d+ )?trace ", data) is not None
+
+
+def parts_of(path):
+    """The files of a trace, the oldest first: those that it was renamed to, and itself."""
+    folder, name = os.path.split(path)
+    part = re.compile(re.escape(name) + r"\.([1-9]\d{0,8})")
+    found = filter(None, map(part.fullmatch, os.listdir(folder or ".")))
+    numbers = sorted(int(it[1]) for it in found)
+    return [*(f"{path}.{it}" for it in numbers), path]

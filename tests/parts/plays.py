@@ -1,5 +1,5 @@
-"""A group that follows a script as tests/storm makes it, line by line, and what is known of the
-script by that: which keys were typed, what each node has learned, and what `sim` should print."""
+"""A group that follows a random script as it is made, line by line, and what is known of the script
+by that: which keys were typed, what each node has learned, and what `sim` should print."""
 
 import bisect
 import collections
@@ -7,25 +7,27 @@ import collections
 from shared.replica.consoles import texts_of
 from shared.replica.datagram import value_text
 from shared.replica.group import Group, GroupRefused
+from shared.replica.protocol import Protocol
 from shared.replica.script import SETTLE, SHOW, Event, Line, text_of_script
 from shared.replica.shown import known_of
 
 # What a node has learned: the line, the node and the number of its start, the place, and the value
 # as it is shown.
 Learned = collections.namedtuple("Learned", "line node start place value")
-# Of the end of a script after its faults have stopped: which of the shows it is, by its index, and
-# the keys that waited as the faults stopped.
-End = collections.namedtuple("End", "show waiting")
+# Of the end of a script after its faults have stopped: which of the shows it is, by its index; the
+# keys that waited as the faults stopped; and the nodes that should be up.
+End = collections.namedtuple("End", "show waiting members")
 # A line that may be left out: its index in the first script, its event, SETTLE or SHOW, and of a
 # deliver the index of the line that sent the message, and the how manieth of that line it was.
 Item = collections.namedtuple("Item", "index event origin")
 
 
 class Play:
-    """What happens to a group, as a script."""
+    """What happens to a group, as a script. `rules` are those of its nodes: a class like
+    Protocol."""
 
-    def __init__(self, size, session):
-        self.group = Group(size, session)
+    def __init__(self, size, session, rules=Protocol):
+        self.group = Group(size, session, rules)
         self.lines = []  # each an event, SETTLE or SHOW
         self.firsts = []  # how many messages were sent before each line
         self.typed = {}  # the characters by node, start and serial
@@ -33,6 +35,11 @@ class Play:
         self.learned, self.refused, self.wanted = [], [], []
         self.events = 0
         self.end = None
+        self.took = None  # of tests/stuck: what the end took
+
+    def again(self):
+        """A play of such a group before its first line."""
+        return Play(self.group.size, self.group.session, self.group.rules)
 
     # Lines.
 
@@ -107,10 +114,10 @@ class Play:
         return line, event.number - self.firsts[line]
 
 
-def play_again(size, session, items):
-    """The play of these items, and those of them that could happen. A deliver is of the message
-    that its line sends now; without that message it is left out too."""
-    play, sent, done = Play(size, session), {}, []
+def play_again(play, items):
+    """Plays these items from a play's begin. Returns those of them that could happen. A deliver is
+    of the message that its line sends now; without that message it is left out too."""
+    sent, done = {}, []
     for it in items:
         event, first = it.event, len(play.group.sent)
         if it.origin is not None:
@@ -122,4 +129,4 @@ def play_again(size, session, items):
         if play.line(event):
             sent[it.index] = range(first, len(play.group.sent))
             done.append(it)
-    return play, done
+    return done

@@ -1,9 +1,8 @@
-"""Makes a script of tests/storm small: leaves out what is not needed for what was found."""
+"""Makes a random script small: leaves out what is not needed for what was found."""
 
 from shared.replica.group import GroupRefused
 
-from .end import end_play
-from .play import play_again
+from .plays import play_again
 
 MOST_TRIES = 3000
 
@@ -34,10 +33,10 @@ def without_parts(items, size, kept):
 
 class Small:
     """A script with a finding, whose kind `find` returns for a play, and what is left of it after
-    at most so many tries."""
+    at most so many tries. `end_play` ends a play with an ending."""
 
-    def __init__(self, storm, find, most_tries=MOST_TRIES):
-        self.size, self.session = storm.group.size, storm.group.session
+    def __init__(self, storm, find, end_play, most_tries=MOST_TRIES):
+        self.first, self.end_play = storm.play, end_play
         self.find, self.tries, self.most_tries = find, 0, most_tries
         self.ending, self.items = storm.ending, storm.items
         self.kind = find(storm.play)
@@ -45,11 +44,12 @@ class Small:
     def played(self, items, ending):
         """The play of items and of an ending, if any, and the items that could happen. GroupRefused
         where a settle makes too many deliveries."""
-        play, done = play_again(self.size, self.session, items)
+        play = self.first.again()
+        done = play_again(play, items)
         if ending is None:
             play.show()
         else:
-            end_play(play, ending)
+            self.end_play(play, ending)
         return play, done
 
     def kept(self, items, ending):

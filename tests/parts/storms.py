@@ -1,12 +1,13 @@
-"""Makes the random scripts of tests/storm. Each seed has faults of its own: it leaves some kinds of
-them out, and has much of others."""
+"""Makes random scripts. Each seed has faults of its own: it leaves some kinds of them out, and has
+much of others."""
 
 import heapq
 
+from shared.replica.protocol import Protocol
 from shared.replica.script import FAILURES
 
-from .end import ending_of, may_settle
-from .play import Play
+from .endings import may_settle
+from .plays import Play
 
 SIZES, SHARES = (1, 3, 5, 7, 9), (1, 5, 2, 1, 1)
 # A node that waits for nothing else gets so many keys that it refuses some.
@@ -52,13 +53,13 @@ class Bias:
 
 
 class Storm:
-    """A script as it is made."""
+    """A script as it is made. `ending_of` draws how it ends."""
 
-    def __init__(self, chance, count):
+    def __init__(self, chance, count, ending_of, rules=Protocol):
         size = chance.choices(SIZES, SHARES)[0]
         self.chance, self.count = chance, count
         self.bias, self.ending = Bias(chance, size, count), ending_of(chance, size)
-        self.play = Play(size, chance.randrange(1 << 32))
+        self.play = Play(size, chance.randrange(1 << 32), rules)
         self.group = self.play.group
         # What is on its way: when it comes, in which order it was sent, and message and node.
         self.on_way, self.order, self.now = [], 0, 0

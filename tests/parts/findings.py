@@ -1,6 +1,6 @@
-"""What has to hold of what `sim` prints on a script of tests/storm. Each check is a function of a
-Case alone, and returns a Finding or None. What is expected comes from the script and from the rules
-of docs/FORMATS.md."""
+"""What has to hold of what `sim` prints on a random script. Each check is a function of a Case
+alone, and returns a Finding or None. What is expected comes from the script and from the rules of
+docs/FORMATS.md."""
 
 import collections
 
@@ -155,12 +155,15 @@ def check_fronts(case):
 
 
 def check_end(case):
-    """At the end, as the faults have stopped, all nodes that are up have learned all places, among
-    them all keys that waited, and their consoles show it."""
+    """At the end, as the faults have stopped, the nodes that should be up are up, and all that are
+    up have learned all places, among them all keys that waited, and their consoles show it."""
     if case.end is None:
         return None
     show = case.shows[case.end.show]
     up = {node: it for node, it in show.nodes.items() if it.is_up}
+    down = set(case.end.members) - up.keys()
+    if down:
+        return Finding("is down", f"node {min(down)}")
     keys = input_of(show.places)
     for node, line in up.items():
         if set(show.places) != set(range(int(line.known))):

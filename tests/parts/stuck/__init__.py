@@ -1,0 +1,1 @@
+"""What tests/stuck alone uses."""
