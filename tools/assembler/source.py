@@ -39,11 +39,10 @@ class Constant:
     place: Place
 
 
-@dataclass
 class Procedure(parts.Procedure):
     """A procedure, with the names of its own."""
 
-    names: Dict[str, Constant] = field(default_factory=dict)
+    names: Dict[str, Constant] = dict
 
 
 @dataclass

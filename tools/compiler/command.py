@@ -8,8 +8,9 @@ from pcode.faults import Fault
 from pcode.files import drop_output, write_whole
 
 from . import report
-from .parsing.lexer import read_text
-from .program import HEAP, LIBRARY_FILES, LINE_ENDS, Options, Refused, compile_text, library_path
+from .parsing.texts import read_text
+from .program import HEAP, LINE_ENDS, Options, Refused, compile_text
+from .runtime import FILES, path_of
 
 ABOUT = """Compiles UCSD Pascal to a code file that pgroup runs. docs/PASCAL.md says which Pascal.
 
@@ -26,7 +27,8 @@ EXAMPLES = """examples:
   compile --heap 9000 hello.pas          more room for NEW
 
 READ takes 10 and 13 as the end of a line. A fault is told as FILE:LINE:COLUMN: what is wrong, on
-standard error, up to ten of them.
+standard error, up to ten of them. What a program needs and is not there is told beside these: all
+of it, each once, at its first place and with how often it is met.
 
 Status 0: it was done. 1: the text has faults, or a file cannot be read or written; then no file is
 written, and an older one stays. 2: other words than these, or an older Python."""
@@ -73,9 +75,9 @@ def words_parser():
 
 
 def library():
-    for name in LIBRARY_FILES:
+    for name in FILES:
         yield f"{{ {name}.pas }}"
-        yield read_text(library_path(name))
+        yield read_text(path_of(name))
 
 
 def make(words):

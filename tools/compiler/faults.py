@@ -1,7 +1,7 @@
 """What is wrong with a program, and where."""
 
 from contextlib import contextmanager
-from typing import List, NamedTuple
+from typing import Dict, List, NamedTuple
 
 from pcode.faults import Fault
 
@@ -21,33 +21,74 @@ class Place(NamedTuple):
         return f"{self.file}:{self.line}:{self.column}"
 
 
-class Enough(Exception):
-    """There are as many faults as are told."""
+class Follows(Fault):
+    """What is met here comes of a fault that is told of the text."""
+
+
+class Lack(Fault):
+    """A program needs what is not there: `feature`, of which it is told once."""
+
+    def __init__(self, text, place=None, feature=None):
+        super().__init__(text, place)
+        self.feature = feature or text
 
 
 class Known(Exception):
-    """What is met here comes of a fault that has been told."""
+    """What is met here comes of a fault that has been told, or of a feature that is not there."""
+
+    def __init__(self, feature=None, is_counted=True):
+        super().__init__()
+        self.feature, self.is_counted = feature, is_counted
 
 
 class Faults:
-    """The faults of a program, each told once, in the order in which they are met."""
+    """The faults of a program, each told once; what it lacks, and how often; and notes."""
 
     def __init__(self):
-        self.found: List[Fault] = []
+        self.places: Dict[Place, Fault] = {}
+        self.lacks: Dict[str, List] = {}  # of each feature the first fault, and how often it is met
+        self.notes: Dict[str, Place] = {}  # each with its first place
+
+    def is_right(self):
+        return not self.places and not self.lacks
+
+    def note(self, text, place):
+        """Says something of a program that is no fault: once, at its first place."""
+        self.notes.setdefault(text, place)
 
     def add(self, fault):
-        if any(fault.place == other.place for other in self.found):
-            return
-        self.found.append(fault)
-        if len(self.found) == MOST_FAULTS:
-            raise Enough
+        if isinstance(fault, Lack):
+            self.lacks.setdefault(fault.feature, [fault, 0])
+            if fault.place < self.lacks[fault.feature][0].place:
+                self.lacks[fault.feature][0] = fault
+            self.count(fault.feature)
+        elif not isinstance(fault, Follows):
+            self.places.setdefault(fault.place, fault)
+
+    def count(self, feature):
+        """A feature that is not there is met once more."""
+        if feature in self.lacks:
+            self.lacks[feature][1] += 1
+
+    def told(self) -> List[Fault]:
+        """All that the program lacks, and the first ten of its other faults, in the order of the
+        text."""
+        lacks = [Fault(f"{fault} ({count} times)" if count > 1 else str(fault), fault.place)
+                 for fault, count in self.lacks.values()]
+        others = sorted(self.places.values(), key=place_of)[:MOST_FAULTS]
+        return sorted(lacks + others, key=place_of)
 
     @contextmanager
     def caught(self):
         """Notes a fault that is met here, and goes on behind."""
         try:
             yield
-        except Known:
-            pass
+        except Known as known:
+            if known.is_counted:
+                self.count(known.feature)
         except Fault as fault:
             self.add(fault)
+
+
+def place_of(fault):
+    return fault.place if isinstance(fault.place, Place) else Place(str(fault.place), 0, 0)

@@ -1,30 +1,26 @@
 """From the text of a program to its code file: the steps of the compiler, one after the other."""
 
-import os
 import re
-from dataclasses import dataclass
-from functools import lru_cache
-from typing import Dict, List
+from typing import List
 
 from pcode.codefile import code_file
 from pcode.faults import Fault, at
 from pcode.parts import Procedure
+from pcode.fields import Fields
 
 from .checking.declarations import Checker
-from .faults import Enough, Faults
+from .faults import Faults
 from .generating.generator import Generator
 from .parsing.declarations import Parser
-from .parsing.lexer import Lexer, read_text
+from .parsing.lexer import Lexer
+from .runtime import Library
 
-LIBRARY = os.path.join(os.path.dirname(os.path.abspath(__file__)), "library")
-LIBRARY_FILES = ("blocks", "output", "input", "strings", "sets", "heap")
 LINE_ENDS = {"lf": 10, "cr": 13}
 HEAP = 4000
 SEGMENT = 1
 
 
-@dataclass
-class Options:
+class Options(Fields):
     """What a program is compiled with."""
 
     line_end: str = "lf"  # what WRITELN writes
@@ -32,8 +28,7 @@ class Options:
     is_echoed: bool = True  # READ from INPUT shows what it reads
 
 
-@dataclass
-class Compiled:
+class Compiled(Fields):
     """A program that was compiled."""
 
     segment: str  # its name in the code file
@@ -50,57 +45,42 @@ class Refused(Exception):
         self.faults = faults
 
 
-def library_path(name):
-    return os.path.join(LIBRARY, f"{name}.pas")
+def parsed(text, file, faults):
+    """The syntax tree of a program. If it has a fault, that is noted, and there may be no tree."""
+    lexer, program = Lexer(text, file), None
+    parser = Parser(lexer.all(), faults)
+    with faults.caught():
+        program = parser.program()
+    for remark in lexer.remarks:
+        if program and remark.at >= parser.at:  # behind the last END.
+            break
+        if isinstance(remark.what, Fault):
+            faults.add(remark.what)
+        else:
+            faults.note(remark.what, remark.place)
+    return program
 
 
-def parse(text, file, faults):
-    """The parser of a text, which has been made tokens, and notes on it."""
-    lexer = Lexer(text, file, faults)
-    return Parser(lexer.all(), faults), lexer.notes
-
-
-@lru_cache(maxsize=None)
-def library_blocks():
-    """The syntax tree of the library, which is the same for all programs."""
-    blocks, faults = [], Faults()
-    for name in LIBRARY_FILES:
-        path = library_path(name)
-        blocks.append(parse(read_text(path), path, faults)[0].library())
-    if faults.found:
-        raise Refused(faults.found)
-    return blocks
-
-
-def check_library(checker, options):
-    constants: Dict[str, int] = {"LINEEND": LINE_ENDS[options.line_end], "HEAPWORDS": options.heap,
-                                 "ECHOED": 1 if options.is_echoed else 0}
-    checker.check_library(library_blocks(), constants)
+def library_of(checker, options):
+    return Library(checker, {"LINEEND": LINE_ENDS[options.line_end], "HEAPWORDS": options.heap,
+                             "ECHOED": 1 if options.is_echoed else 0})
 
 
 def checked(text, file, options):
     """The checker of a program that has no fault, and notes on it."""
-    faults, notes = Faults(), []
+    faults = Faults()
     checker = Checker(faults, LINE_ENDS[options.line_end])
-    try:
-        parser, notes = parse(text, file, faults)
+    program = parsed(text, file, faults)
+    if program:
+        of_form = dict(faults.places)
+        checker.library = library_of(checker, options)
         with faults.caught():
-            program = parser.program()
-        if not faults.found:
-            check_library(checker, options)
-            with faults.caught():
-                checker.check_program(program)
-    except Enough:
-        pass
-    if faults.found:
-        raise Refused(sorted(faults.found, key=order))
-    return checker, notes
-
-
-def order(fault):
-    """Faults of a file are told in the order of its text."""
-    place = fault.place
-    return (place.file, place.line, place.column) if hasattr(place, "line") else (str(place), 0, 0)
+            checker.check_program(program)
+        faults.places = of_form or faults.places  # those of types are told once there are no others
+    if not faults.is_right():
+        raise Refused(faults.told())
+    notes = sorted((place, note) for note, place in faults.notes.items())
+    return checker, [f"{place}: note: {note}" for place, note in notes]
 
 
 def compile_text(text, file, options=None) -> Compiled:

@@ -5,8 +5,9 @@ import os
 from pcode.faults import Fault
 from pcode.listing import Lister
 
-from .parsing.lexer import read_text
-from .program import LIBRARY, Compiled
+from .parsing.texts import read_text
+from .program import Compiled
+from .runtime import FOLDER
 
 MARGIN = 8  # of an instruction in the assembly
 
@@ -22,7 +23,7 @@ class Source:
         if place.file not in self.texts:
             self.texts[place.file] = read_text(place.file).split("\n")
         file = place.file
-        if os.path.dirname(file) == LIBRARY:
+        if os.path.dirname(file) == FOLDER:
             file = os.path.join("library", os.path.basename(file))
         return f"{file}:{place.line}: {self.texts[place.file][place.line - 1].strip()}"
 

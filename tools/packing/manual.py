@@ -158,6 +158,8 @@ def script_pages():
     pages = {f"pgroup-{it}.1": script_page(it) for it in SCRIPTS}
     compiler = module_of("compiler.command").words_parser()
     pages["pgroup-compile.1"] = page_of_words("compile", compiler)
+    volume = module_of("volumes.command").words_parser()
+    pages["pgroup-volume.1"] = page_of_words("volume", volume)
     return {**pages, "pgroup-assemble.1": assembler_page(), "pgroup-console.1": console_page()}
 
 

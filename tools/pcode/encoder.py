@@ -2,11 +2,12 @@
 
 import struct
 
-from .faults import Fault, at, in_range
+from .faults import Fault, in_range
 from .instructions import (BIG, BYTE, CALL, COMPARE, JUMP, LDCI, LEVELS, MOST_BYTES, MOST_FAR,
                            PACKED, PLAIN, SHORT, XJP)
 
 FORMS = (PLAIN, SHORT, BYTE, BIG, LEVELS, PACKED, COMPARE, CALL, JUMP, {"LDCI": LDCI})
+TABLES = {name: table for table in FORMS for name in table}
 
 
 def byte(value):
@@ -94,7 +95,7 @@ class Encoder:
         name, operands = line.name, line.operands
         if name == "XJP":
             return self.case(line)
-        table = next((table for table in FORMS if name in table), None)
+        table = TABLES.get(name)
         if table is None:
             raise Fault(f"there is no instruction {name}")
         wanted = 0 if table is PLAIN else 2 if table in (LEVELS, PACKED) else 1
@@ -139,10 +140,13 @@ class Encoder:
         for line in self.procedure.lines:
             line.at = self.start + len(code)
             places.append(line.at)
-            with at(line.place):
+            try:
                 code += self.encode(line)
                 if self.start + len(code) > MOST_BYTES:
                     raise Fault(f"the segment has more than {MOST_BYTES} bytes")
+            except Fault as fault:  # `at` would take time for each line
+                fault.place = fault.place or line.place
+                raise
         labels = self.procedure.labels.items()
         return bytes(code), {name: places[label.index] for name, label in labels}
 

@@ -1,11 +1,11 @@
 """What a code file is made of: procedures, with their instructions and labels."""
 
-from dataclasses import dataclass, field
 from typing import Any, Dict, List, Optional
 
+from .fields import Fields
 
-@dataclass
-class Line:
+
+class Line(Fields):
     """An instruction, and where it comes from; its offset in the segment as soon as it is known.
 
     An operand is a number, the name of a label or the number of a procedure; in the assembler it is
@@ -21,16 +21,14 @@ class Line:
         return " ".join([self.name] + [str(operand) for operand in self.operands])
 
 
-@dataclass
-class Label:
+class Label(Fields):
     """Where a label is set, and how many instructions of its procedure stand in front of it."""
 
     place: Any
     index: int
 
 
-@dataclass
-class Procedure:
+class Procedure(Fields):
     """A procedure: the header, its instructions and its labels, of which `exit` has to be there."""
 
     place: Any
@@ -39,5 +37,5 @@ class Procedure:
     level: int
     params: int
     data: int
-    lines: List[Line] = field(default_factory=list)
-    labels: Dict[str, Label] = field(default_factory=dict)
+    lines: List[Line] = list
+    labels: Dict[str, Label] = dict

@@ -64,6 +64,11 @@ PROCEDURE P; BEGIN END; PROCEDURE Q; BEGIN EXIT(P) END;""", "Q; WRITE('X')", "",
     ("ODD of what is known", "VAR A: ARRAY[BOOLEAN] OF CHAR;", "A[FALSE] := 'F'; A[TRUE] := 'T'; "
      "CASE ODD(5) OF TRUE: WRITE(A[ODD(7)], A[ODD(4)]) END; WRITE(ORD(ODD(6)), ODD(6))", "",
      "TF6FALSE", ""),
+    ("what is known of Booleans is worked out", "CONST YES = TRUE; VAR B: BOOLEAN;",
+     "WRITE(NOT YES, YES AND (1 < 2), (2 <= 1) OR NOT YES, ORD(NOT YES), ORD(NOT (1 = 2)), "
+     "ODD(3) = YES, (NOT YES) < YES, 'A' <> 'B', (ODD(4) OR ODD(2)) >= YES); "
+     "IF (MAXINT > 1) AND NOT (1 >= 2) THEN WRITE('T') ELSE WRITE('F'); B := NOT (3 > 2); WRITE(B)",
+     "", "FALSETRUEFALSE-2-1TRUETRUETRUEFALSETFALSE", ""),
     ("AND looks at both sides", NUMBERS + """
 FUNCTION F(N: INTEGER): BOOLEAN; BEGIN WRITE(N); F := N > 0 END;""",
      "IF F(0) AND F(1) THEN; IF F(1) OR F(0) THEN", "", "0110", ""),
@@ -105,6 +110,17 @@ FUNCTION F(N: INTEGER): BOOLEAN; BEGIN WRITE(N); F := N > 0 END;""",
     # Strings
     ("string overflow", STRINGS, "U := 'ABCDE'; WRITE(U); S := 'ABCDEF'; U := S", "", "ABCDE",
      ERROR + " 1"),
+    ("S := U of one declared length moves all words", """
+TYPE R = RECORD A: STRING[7]; N: INTEGER END;
+VAR S, T: STRING[7]; Q: R; A: ARRAY[1..2] OF STRING[7]; P: ^R; I: INTEGER;""",
+     "S := 'ABCDEFG'; T := S; WRITE(T); T := 'XY'; Q.N := 5; Q.A := T; A[2] := Q.A; NEW(P); "
+     "P^.N := 6; P^.A := A[2]; S := P^.A; WRITE(S, LENGTH(S), Q.N, P^.N); S := S; WRITE(S)", "",
+     "ABCDEFGXY256XY", ""),
+    ("S := U by VAR parameters moves what there is", """VAR S: STRING[3]; N: INTEGER; T: STRING;
+PROCEDURE P(VAR A, B: STRING); BEGIN A := B; B := A END;
+PROCEDURE Q(VAR A: STRING); BEGIN A := T; T := A END;""",
+     "N := 7; S := 'ABC'; T := 'XY'; P(S, T); WRITE(S, N); Q(S); WRITE(S, T, N)", "", "XY7XYXY7",
+     ""),
     ("the length of a string", STRINGS, "S := 'ABC'; WRITE(LENGTH(S), LENGTH(''), S[1]); "
      "S[3] := 'X'; WRITE(S); {$R-} S[0] := CHR(2); {$R+} WRITE(S); S[3] := 'Y'", "", "30AABXAB",
      ERROR + " 1"),
@@ -133,6 +149,9 @@ FUNCTION F(N: INTEGER): BOOLEAN; BEGIN WRITE(N); F := N > 0 END;""",
      "FILLCHAR(A, 8, '.'); A[0] := 'A'; A[1] := 'B'; MOVELEFT(A[0], A[2], 2); WRITE(A); "
      "MOVELEFT(A[0], A[1], 3); WRITE(' ', A); A := 'ABCD....'; MOVERIGHT(A[0], A[1], 3); "
      "WRITE(' ', A)", "", "ABAB.... AAAA.... AABC....", ""),
+    ("FILLCHAR with a number", "VAR A: PACKED ARRAY[0..7] OF CHAR; I: INTEGER;",
+     "FILLCHAR(A, 8, 65); I := 322; FILLCHAR(A[2], 2, I); WRITE(A); FILLCHAR(A, SIZEOF(A), 0); "
+     "WRITE(ORD(A[7]))", "", "AABBAAAA0", ""),
     # Sets
     ("sets", COLORS, "S := [RED, BLUE]; T := S - [RED]; FOR C := RED TO BLUE DO WRITE(C IN T); "
      "T := T + [GREEN..GREEN]; WRITE(T = [GREEN, BLUE], T <= [RED..BLUE], S * T = [BLUE], "
@@ -157,6 +176,8 @@ VAR H, P: L; M: ^INTEGER; I: INTEGER;""", "H := NIL; FOR I := 1 TO 3 DO BEGIN NE
      "P^.N := H; H := P END; WHILE H <> NIL DO BEGIN WRITE(H^.V); H := H^.N END; "
      "WRITE(' ', MEMAVAIL); MARK(M); NEW(P); RELEASE(M); WRITE(' ', MEMAVAIL)", "",
      "321 3994 3994", ""),
+    ("DISPOSE gives nothing back", "VAR P: ^INTEGER;",
+     "NEW(P); P^ := 7; DISPOSE(P); WRITE(P^, ' ', MEMAVAIL)", "", "7 3999", ""),
     ("a full heap", "TYPE A = ARRAY[1..1999] OF INTEGER; VAR P: ^A; I: INTEGER;",
      "FOR I := 1 TO 3 DO BEGIN NEW(P); WRITE(I) END", "", "12", ERROR + " 1"),
     # WRITE
@@ -183,12 +204,49 @@ VAR H, P: L; M: ^INTEGER; I: INTEGER;""", "H := NIL; FOR I := 1 TO 3 DO BEGIN NE
     ("KEYBOARD shows nothing", STRINGS, "READ(KEYBOARD, C); WRITE('<', C, '>'); "
      "READLN(KEYBOARD, S); WRITE(S, EOLN(KEYBOARD))", "xab\n", "<x>abFALSE", ""),
     ("a program that reads on waits", STRINGS, "READLN(S)", "ab", "ab", "waits"),
+    # Files on devices, which are the console
+    ("REWRITE of the console's names", """VAR F, G: TEXT; H: INTERACTIVE; S: STRING;
+PROCEDURE P(VAR E: TEXT); BEGIN WRITELN(E, 'P', 1:3) END;""",
+     "REWRITE(F, 'CONSOLE:'); WRITE(F, 'A', 1); P(F); S := 'printer:'; REWRITE(G, S); P(G); "
+     "CLOSE(F, LOCK); REWRITE(F, '#8:'); WRITELN(F); PAGE(G); CLOSE(F); CLOSE(G, NORMAL); "
+     "REWRITE(H, 'Remout:'); REWRITE(H); REWRITE(OUTPUT); WRITE(H, S, IORESULT); CLOSE(OUTPUT)", "",
+     "A1P  1\nP  1\n\n\x1b[2J\x1b[1;1Hprinter:0", ""),
+    ("RESET of the console's names", "VAR F: TEXT; G: INTERACTIVE; S: STRING; C: CHAR; I: INTEGER;",
+     "RESET(G, 'SYSTERM:'); READ(G, C); WRITE('<', C, G^, EOLN(G), EOF(G), '>'); CLOSE(G); "
+     "RESET(F, 'CONSOLE:'); READLN(F, S); WRITE(S); READLN(F, I); WRITE(I); GET(F); "
+     "WRITE(F^); RESET(F); READ(F, C); WRITE(C)", "xab\n5\nyz",
+     "<xxFALSEFALSE>ab\nab5\n5yyzz", ""),
+    ("files of other names", "VAR F: TEXT; S: STRING; I: INTEGER;",
+     "S := 'DATA.TEXT'; {$I-} RESET(F, S); I := IORESULT; REWRITE(F, '#1:'); WRITE(IORESULT, I); "
+     "{$I+} RESET(F, S); WRITE('X')", "", "02there is no file DATA.TEXT\n", ERROR + " 10"),
+    ("a file that is not open", "VAR F: TEXT;",
+     "REWRITE(F, '#1:'); WRITE(F, 'A'); CLOSE(F); WRITE(F, 'B')", "", "A", ERROR + " 1"),
     # Units
     ("UNITREAD and UNITWRITE", "VAR A: PACKED ARRAY[0..3] OF CHAR; N: INTEGER;",
      "UNITREAD(1, A, 2); UNITREAD(2, A[2], 2, , 0); UNITWRITE(1, A[1], 3); "
      "{$I-} UNITWRITE(6, A, 1); N := IORESULT; {$I+} WRITE(N); UNITWRITE(6, A, 1)",
      "abcd", "abbcd2", ERROR + " 10"),
+    ("UNITCLEAR, UNITWAIT and UNITBUSY do nothing", NUMBERS + """
+FUNCTION F: INTEGER; BEGIN WRITE('F'); F := 1 END;""",
+     "UNITCLEAR(1); UNITWAIT(F); WRITE(UNITBUSY(2), UNITBUSY(F))", "", "FFALSEFFALSE", ""),
+    ("SCAN, as its manual shows it", "VAR DEM: PACKED ARRAY[0..52] OF CHAR;",
+     "DEM := '.....THE TERAK IS A MEMBER OF THE PTERODACTYL FAMILY.'; WRITE("
+     "SCAN(-26, =':', DEM[30]), ' ', SCAN(100, <>'.', DEM), ' ', SCAN(15, =' ', DEM[0]), ' ', "
+     "SCAN(-9, ='E', DEM[7]), SCAN(0, ='.', DEM), ' ', SCAN(-9, <>'T', DEM[5]), "
+     "SCAN(4, =CHR(46), DEM[1]))", "",
+     "-26 5 8 00 -10", ""),
+    ("SCAN of a string", STRINGS, "S := 'AB,CD'; C := ','; I := SCAN(LENGTH(S), =C, S[1]); "
+     "WRITE(I, SCAN(2, =C, S[1]), SCAN(-4, <>C, S[3]))", "", "22-1", ""),
+    ("INPUT^ is what was read last, and GET reads", STRINGS, "READ(C); WRITE(INPUT^, C); "
+     "GET(INPUT); WRITE(INPUT^); READ(C); WRITE(C); READ(I); WRITE(INPUT^, I); READ(C); WRITE(C); "
+     "GET(KEYBOARD); WRITE(KEYBOARD^, INPUT^)", "ab12;z", "aaabbb12;;12;z;", ""),
+    ("RESET of INPUT lets reading begin anew", STRINGS, "READLN(S); READ(C); RESET(INPUT); "
+     "WRITE(EOF, EOLN); RESET(KEYBOARD); READLN(T); WRITE(S, T)", "a\n\x03b\n",
+     "a\nFALSEFALSEb\nab", ""),
     # Procedures
+    ("SEGMENT changes nothing", """SEGMENT PROCEDURE P(N: INTEGER); FORWARD;
+SEGMENT FUNCTION F(N: INTEGER): INTEGER; BEGIN F := N + 1 END;
+SEGMENT PROCEDURE P; BEGIN WRITE(F(N)) END;""", "P(4)", "", "5", ""),
     ("variables of procedures around", """
 PROCEDURE A(P: INTEGER); VAR V: INTEGER;
   PROCEDURE B(Q: INTEGER); VAR W: INTEGER;

@@ -87,14 +87,22 @@ STATEMENTS = [
     ('WRITE("ABC")', 7, "a text stands between ' and '"),
     ("I := 1 }", 8, "the character } is no part of Pascal"),
     ("I := (1 + ;", 11, "a value is wanted, and not ;"),
+    # AND and OR between comparisons
+    ("IF I > 0 AND PAY > 0 THEN I := 1", 18, "AND and OR come before comparisons: write (A = B)"),
+    ("IF I = 1 OR B THEN I := 1", 8, "and a BOOLEAN is wanted here. AND and OR come before"),
+    ("B := I < PAY < 3", 14, "put the first one into parentheses"),
     # What is not there
-    ("RESET(G, 'X')", 1, "RESET: there are no files: keep the data in an array"),
+    ("RESET(I, 'X')", 1, "RESET: there are no files: keep the data in an array"),
     ("I := TRUNC(1)", 6, "TRUNC: there are no real numbers"),
     ("I := 3.14", 6, "3.14 is a real number, and there are none"),
     ("TIME(I, I)", 1, "TIME: there is no clock"),
-    ("I := SCAN(1, ='A', S)", 14, "SCAN is not there: look for the character in a loop"),
-    ("DISPOSE(P)", 1, "DISPOSE: there is no DISPOSE in UCSD Pascal II.0: MARK and RELEASE"),
-    ("UNITCLEAR(1)", 1, "UNITCLEAR: it is not there: a unit is never busy"),
+    ("I := SCAN(1, 'A', S)", 14, "SCAN has = or <> in front of the character"),
+    ("I := SCAN(1, =1, S)", 15, "this is an INTEGER, and a CHAR is wanted here"),
+    ("I := ORD(='A')", 10, "= in front of a value is of SCAN's second parameter alone"),
+    ("FILLCHAR(T, 3, B)", 16, "B is a BOOLEAN, and a CHAR is wanted here"),
+    ("DISPOSE(I)", 9, "I is an INTEGER, and a pointer is wanted here"),
+    ("GET(OUTPUT)", 1, "GET: there are no files"),
+    ("C := OUTPUT^", 12, "OUTPUT is written at once, and has no window"),
     ("{$I #4:X.TEXT} I := 1", 1, "#4:X.TEXT is a file of a p-System's volume"),
     ("{$I gone.pas} I := 1", 1, "gone.pas cannot be read"),
     ("{$X+} I := 1", 1, "there is no option X+"),
@@ -104,14 +112,24 @@ DECLARATIONS = [
     ("VAR X: REAL;", 8, "REAL: there are no real numbers: take an INTEGER"),
     ("VAR X: INTEGER[8];", 15, "there are no long integers"),
     ("VAR F: FILE OF CHAR;", 8, "there are no files: keep the data in an array"),
-    ("VAR F: TEXT;", 8, "TEXT: there are no files"),
+    ("VAR F: ARRAY[1..2] OF TEXT;", 8, "a file is a variable of its own"),
+    ("TYPE R = RECORD F: TEXT END;", 17, "a file is a variable of its own"),
+    ("PROCEDURE P(F: TEXT); BEGIN END;", 13, "a file is a VAR parameter"),
+    ("VAR F: TEXT; PROCEDURE P; BEGIN RESET(F, 'X.TEXT') END;", 42,
+     "RESET of X.TEXT: there are no files"),
+    ("VAR F, G: TEXT; PROCEDURE P; BEGIN F := G END;", 38, "a file is not assigned"),
+    ("VAR F: TEXT; PROCEDURE P; BEGIN IF F = F THEN END;", 38, "cannot be compared by ="),
+    ("VAR F: TEXT; PROCEDURE P; BEGIN CLOSE(F, KEEP) END;", 33, "CLOSE has a file, and LOCK"),
     ("USES TURTLE;", 6, "there are no units: put the procedures of TURTLE into this text"),
-    ("SEGMENT PROCEDURE P; BEGIN END;", 1, "there are no segment procedures"),
+    ("SEGMENT VAR X: CHAR;", 9, "PROCEDURE or FUNCTION is wanted behind SEGMENT, and not VAR"),
     ("PROCEDURE P; EXTERNAL;", 14, "there are no external procedures"),
     ("PROCEDURE P; FORWARD;", 11, "P is declared FORWARD, and its body is missing"),
-    ("FUNCTION F: STRING; BEGIN END;", 13, "take a VAR parameter"),
+    ("FUNCTION F: STRING; BEGIN END;", 13, "UCSD Pascal had no functions that give a STRING: take "
+     "a VAR parameter"),
+    ("TYPE R = RECORD A: CHAR END; FUNCTION F: R; BEGIN END;", 42, "and not a R: take a VAR"),
     ("FUNCTION F; BEGIN END;", 10, "the function F has no type"),
-    ("PROCEDURE P(A: ARRAY[1..2] OF CHAR); BEGIN END;", 16, "the type of a parameter is a name"),
+    ("PROCEDURE P(A: (RED, GREEN)); BEGIN END;", 16, "the type of a parameter is a name"),
+    ("PROCEDURE P(A: ARRAY[1..2] OF CHAR); BEGIN END;", 16, "UCSD Pascal had no conformant arrays"),
     ("VAR A, A: INTEGER;", 8, "A is declared twice"),
     ("VAR COUNTERONE, COUNTEROTHER: CHAR;", 17, "of a name the first 8 characters count"),
     ("TYPE T = ^GONE;", 11, "GONE is not declared"),
@@ -135,18 +153,20 @@ TEXTS = [
     ("PROGRAM A; BEGIN END", "1:21", ". is wanted behind the last END, and not the end"),
     ("PROGRAM A; BEGIN", "1:17", "a ; or END is wanted behind a statement"),
     ("PROGRAM A; BEGIN \0 END.", "1:18", "the character number 0 is no part of Pascal"),
+    ("PROGRAM A; BEGIN WRITE('X END.", "1:24", "this text has no second quote on its line"),
+    ("PROGRAM A; BEGIN { END. # ' \"", "1:18", "this comment has no }"),
 ]
 # A text with several faults: each is told once, in order, and one alone of a name.
 SEVERAL = """PROGRAM A;
-VAR X: REAL; I: INTEGER
+VAR X: FILE; I: INTEGER
 BEGIN
   I := ;
   I = 2;
 END.
 """
-SEVERAL_PLACES = ["2:24", "4:8", "5:5"]
+SEVERAL_PLACES = ["2:8", "2:24", "4:8", "5:5"]
 TYPED = """PROGRAM A;
-VAR X: REAL; I: INTEGER;
+VAR X: FILE; I: INTEGER;
 BEGIN
   X := 1; J := 2; J := 3;
   IF I THEN I := 'A' ELSE Q;

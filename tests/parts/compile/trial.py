@@ -15,53 +15,15 @@ from .cases import CASES
 from .programs import BY_HAND, PROGRAMS
 from .refusals import (DECLARATIONS, DECLARED, LINE, SEVERAL, SEVERAL_PLACES, STATEMENTS, TEXTS,
                        TYPED, TYPED_PLACES)
-
-TOOLS, EXAMPLES = os.path.join(TOP, "tools"), os.path.join(TOP, "examples")
-TOOL = os.path.join(TOOLS, "compile")
-sys.path.insert(0, TOOLS)
+from .judging import (TOOL, Options, Refused, compile_text, faults_of, prints, read_text, run, tool,
+                      write)
 from assembler import command as assembler
-from compiler.parsing.lexer import read_text
-from compiler.program import Options, Refused, compile_text
 
-STEPS = "4000000000"
+EXAMPLES = os.path.join(TOP, "examples")
 # What is put into a text in a wrong place.
 BITS = ("STRING SET ^ NIL 0 32768 - [ ] VAR FORWARD; RECORD '' 1.5 WITH IN EXIT(PROGRAM) BEGIN "
         "END CASE ; : := . .. ( ) PACKED ARRAY OF FUNCTION USES LABEL GOTO 1: { (* $R- {$R-} \" \0"
         ).split(" ")
-
-
-def write(name, data):
-    with open(name, "wb") as file:
-        file.write(data if isinstance(data, bytes) else data.encode("latin-1"))
-
-
-def faults_of(text, file="t.pas", options=None):
-    """What a text is refused with, as `LINE:COLUMN: text`; nothing where it is not."""
-    try:
-        compile_text(text, file, options)
-        return []
-    except Refused as refused:
-        return [f"{fault.place}: {fault}" for fault in refused.faults]
-
-
-def run(data, given, *words):
-    """What a code file writes on an input, and how it ends."""
-    write("t.code", data)
-    limit = words or ("--steps", STEPS)
-    done = subprocess.run([PROGRAM, "run", "t.code", *limit], check=False,
-                          input=given.encode("latin-1"), capture_output=True)
-    said = re.sub(r" in procedure .*\n|\n", "", done.stderr.decode())
-    return done.stdout.decode("latin-1"), said
-
-
-def prints(name, text, given, output, ending, options=None):
-    """Whether a program writes what it has to, and ends so."""
-    try:
-        data = compile_text(text, f"{name}.pas", options).data
-    except Refused as refused:
-        must(False, f"{name} is refused: {refused.faults[0].place}: {refused.faults[0]}")
-    found = run(data, given)
-    must(found == (output, ending), f"{name}: {found} is not {(output, ending)}")
 
 
 def try_cases():
@@ -226,13 +188,6 @@ def try_garbled(count):
         must(done.returncode == 0, f"the loader says {done.stderr!r} of what is made of {text}")
     passed(f"of {count} garbled texts {taken} make files that `check` takes, and "
           f"{count - taken} are refused at a place")
-
-
-def tool(*words, folder=None):
-    """The command by a process of its own: its status, standard output and standard error."""
-    done = subprocess.run([sys.executable, TOOL, *words], check=False, capture_output=True,
-                          cwd=folder)
-    return done.returncode, done.stdout.decode("latin-1"), done.stderr.decode("latin-1")
 
 
 def try_command():

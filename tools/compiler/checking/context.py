@@ -33,10 +33,11 @@ class Context:
     def refuse(self, text, place):
         raise Fault(text, place)
 
-    def refuse_type(self, node, kind, wanted):
+    def refuse_type(self, node, kind, wanted, hint=""):
         """Refuses a value or variable of another type than is wanted."""
         what = f"{node.written} is" if isinstance(node, syntax.Name) else "this is"
-        self.refuse(f"{what} {with_article(kind)}, and {wanted} is wanted here", node.place)
+        self.refuse(f"{what} {with_article(kind)}, and {wanted} is wanted here{hint}",
+                    node.place)
 
     def need(self, node, kind, wanted):
         """Refuses a value of another host than is wanted."""

@@ -1,13 +1,15 @@
 """Checks declarations, and a whole program."""
 
+from contextlib import contextmanager
+
 from ..parsing import syntax
+from ..parsing.declarations import no_unit
 from ..parsing.lexer import fold
 from .context import kind_of
 from .locations import is_word
 from .statements import Statements
-from .symbols import (Broken, ConstantSymbol, Copy, Parameter, Routine, Scopes, Standard,
-                      TypeSymbol, Variable)
-from .types import INTEGER, Ordinal, Pointer, Record
+from .symbols import Broken, Copy, Parameter, Routine, Scopes, TypeSymbol, Variable
+from .types import File, Ordinal, Pointer, Record, String
 
 MOST_ROUTINES = 255
 DEEPEST = 127
@@ -18,31 +20,41 @@ FILE_WORDS = 2
 
 
 class Checker(Statements):
-    """The whole checker. Its entries are `check_library` and `check_program`."""
+    """The whole checker. Its entry is `check_program`; `library` is given in front of it."""
 
     def __init__(self, faults, line_end):
-        super().__init__(Scopes(), faults, {})
+        super().__init__(Scopes(), faults, None)
         self.line_end = line_end
         self.main = Routine("PROGRAM", 0, None, None, words=FILE_WORDS, parameter_words=FILE_WORDS)
 
-    def check_library(self, blocks, constants):
-        """Declares the run-time library. Its procedures and variables get their numbers and
-        offsets where they are used."""
-        self.is_library, self.routine = True, self.main
-        self.scopes.open({fold(name): ConstantSymbol(INTEGER, it)
-                          for name, it in constants.items()})
-        self.scopes.scopes[-1]["ADDRESS"] = Standard("ADDRESS")
-        for block in blocks:
-            for declaration in block:
-                self.declare(declaration)
-        self.library = self.scopes.close()
-        self.is_library = False
+    # The run-time library. Its procedures and variables get their numbers and offsets where they
+    # are used.
+
+    @contextmanager
+    def in_library(self, library, faults):
+        """The library's names are known here, and no others."""
+        kept = self.scopes, self.faults, self.routine, self.is_library
+        self.scopes, self.faults, self.routine, self.is_library = Scopes(), faults, self.main, True
+        self.scopes.open(library)
+        try:
+            yield
+        finally:
+            self.scopes, self.faults, self.routine, self.is_library = kept
+
+    def declare_of_library(self, node):
+        """Declares a procedure of the library without its body, and all else whole."""
+        if isinstance(node, syntax.RoutineDeclaration):
+            self.library.blocks[self.fresh_routine(node)] = node.block
+        else:
+            self.declare(node)
 
     def check_program(self, program):
         """The routines of a program, the program itself first."""
         main = self.main
         main.name, main.place, main.number = program.name.written, program.place, 1
         self.routines = [main]
+        if program.units:
+            self.scopes.units = no_unit(program.units[0])
         self.scopes.open({program.name.name: main})
         self.scopes.open()
         self.block(main, program.block)
@@ -75,10 +87,10 @@ class Checker(Statements):
         """What is made; if it has a fault, the names are not told of again."""
         try:
             return make()
-        except Exception:
+        except Exception as fault:
             for name in names:
                 if not self.scopes.local(name):
-                    self.scopes.declare(name, Broken())
+                    self.scopes.declare(name, Broken(getattr(fault, "feature", None)))
             raise
 
     def label(self, node):
@@ -118,10 +130,13 @@ class Checker(Statements):
         if node.block is None:
             routine.is_forward = True
             return
+        self.body_of(routine, node.block)
+
+    def body_of(self, routine, block):
         self.scopes.open()
         try:
             self.declare_parameters(routine)
-            self.block(routine, node.block)
+            self.block(routine, block)
         finally:
             self.scopes.close()
 
@@ -148,14 +163,17 @@ class Checker(Statements):
                             "library among them", node.place)
         try:
             self.heading(node, routine)
-        except Exception:
-            self.scopes.declare(node.name, Broken(), is_again=True)
+        except Exception as fault:
+            feature = getattr(fault, "feature", None)
+            self.scopes.declare(node.name, Broken(feature), is_again=True)
             raise
         return routine
 
     def heading(self, node, routine):
         for group in node.parameters or []:
             kind = self.type_of(group.type)
+            if isinstance(kind, File) and not group.is_var:
+                self.refuse("a file is a VAR parameter", group.place)
             for name in group.names:
                 routine.parameters.append(Parameter(name.written, kind, group.is_var, name.place))
         if node.is_function:
@@ -163,6 +181,9 @@ class Checker(Statements):
                 self.refuse(f"the function {node.name.written} has no type: a : and its type are "
                             "wanted", node.place)
             routine.result = self.type_of(node.result)
+            if isinstance(routine.result, String):
+                self.refuse("UCSD Pascal had no functions that give a STRING: take a VAR parameter "
+                            "for it", node.result.place)
             if not isinstance(routine.result, (Ordinal, Pointer)):
                 self.refuse(f"a function gives a number, character, Boolean, name of a list or "
                             f"pointer, and not a {routine.result}: take a VAR parameter",

@@ -1,10 +1,12 @@
 """Makes types of what is declared."""
 
+from ..faults import Known
 from ..parsing import syntax
 from .context import Context, kind_of
 from .layout import Layout
 from .symbols import ConstantSymbol, TypeSymbol
-from .types import MOST_ELEMENT, MOST_WORDS, WORD, Array, Ordinal, Pointer, Record, Set, String
+from .types import (MOST_ELEMENT, MOST_WORDS, WORD, Array, File, Ordinal, Pointer, Record, Set,
+                    String)
 
 
 class TypeMaker(Context):
@@ -20,8 +22,12 @@ class TypeMaker(Context):
             syntax.Enumeration: self.enumeration, syntax.Subrange: self.subrange,
             syntax.ArrayType: self.array_type, syntax.RecordType: self.record_type,
             syntax.SetType: self.set_type, syntax.PointerType: self.pointer_type,
+            syntax.AbsentType: self.absent_type,
         }
         return makers[type(node)](node)
+
+    def absent_type(self, node):
+        raise Known(node.feature, is_counted=False)  # the parser has told of it
 
     def named_type(self, node):
         symbol = self.scopes.find(node)
@@ -59,6 +65,7 @@ class TypeMaker(Context):
         if not isinstance(index, Ordinal):
             self.refuse_type(node.index, index, "a range, CHAR, BOOLEAN or a list of names")
         element = self.type_of(node.element)
+        self.refuse_file(element, node.place)
         if index.high - index.low >= MOST_WORDS * WORD:
             self.refuse(f"the array has more than {MOST_WORDS} words", node.place)
         array = Array(index, element, node.is_packed)
@@ -66,6 +73,10 @@ class TypeMaker(Context):
             self.refuse(f"the array has {array.size} words, and {MOST_WORDS} are all that a "
                         "machine has", node.place)
         return array
+
+    def refuse_file(self, kind, place):
+        if isinstance(kind, File):
+            self.refuse("a file is a variable of its own, and no part of another", place)
 
     def record_type(self, node):
         record = Record(node.is_packed)
@@ -98,6 +109,7 @@ class TypeMaker(Context):
 
     def add_field(self, name, kind, layout):
         fields = layout.record.fields
+        self.refuse_file(kind, name.place)
         if name.name in fields:
             self.refuse(f"the record has a field {name.written} already", name.place)
         fields[name.name] = layout.put(kind)

@@ -4,6 +4,7 @@ from ..parsing import syntax
 from . import tree
 from .calls import Calls
 from .context import low_bit, number
+from .locations import is_packed
 from .symbols import FileSymbol, Routine, TypeSymbol, Variable
 from .types import BOOLEAN, CHAR, INTEGER, Pointer, String, is_ordinal, wrap
 
@@ -16,6 +17,7 @@ class StandardFunctions(Calls):
             "LENGTH": self.length, "POS": self.pos, "CONCAT": self.concat, "COPY": self.copy,
             "EOLN": self.end_of, "EOF": self.end_of, "IORESULT": self.ioresult,
             "MEMAVAIL": self.memavail, "SIZEOF": self.sizeof, "ADDRESS": self.address,
+            "SCAN": self.scan, "UNITBUSY": self.unitbusy,
         }
         if name not in makers:
             self.refuse(f"{name} is a procedure, and has no value", node.place)
@@ -82,24 +84,42 @@ class StandardFunctions(Calls):
         return tree.Copied(kind, text, self.integer(at), self.integer(count))
 
     def file_of(self, arguments):
-        """INPUT or KEYBOARD as the first argument, or INPUT where there is none."""
-        first = arguments[0].value if arguments else None
-        if isinstance(first, syntax.Name):
-            symbol = self.scopes.find(first)
-            if isinstance(symbol, FileSymbol):
-                return symbol.name, arguments[1:]
-        return None, arguments
+        """The file that is the first argument, or None; and the other arguments."""
+        file = self.file_named(arguments[0].value) if arguments else None
+        return (file, arguments[1:]) if file else (None, arguments)
 
     def end_of(self, name, node):
         file, rest = self.file_of(node.arguments)
         if rest or file == "OUTPUT":
             self.refuse(f"{name} asks for the end of INPUT or KEYBOARD", node.place)
-        unit = number(2 if file == "KEYBOARD" else 1)
-        return self.call_library("ATEOLN" if name == "EOLN" else "ATEOF", unit)
+        return self.call_library("ATEOLN" if name == "EOLN" else "ATEOF", self.number_of(file))
 
     def ioresult(self, _name, node):
         self.take(node, 0)
         return tree.Operation(INTEGER, ("CSP", 34), [])
+
+    def unitbusy(self, _name, node):
+        """No unit is ever busy."""
+        unit = self.integer(*self.take(node, 1))
+        return tree.Operation(BOOLEAN, ("LAND",), [unit, number(0)])
+
+    def scan(self, _name, node):
+        """SCAN(LENGTH, =CHARACTER or <>CHARACTER, VARIABLE)."""
+        length, part, target = self.take(node, 3)
+        if not isinstance(part, syntax.Unary) or part.operator not in ("=", "<>"):
+            self.refuse("SCAN has = or <> in front of the character that it looks for", part.place)
+        count, wanted = self.integer(length), self.value(part.operand)
+        self.need(part.operand, wanted.type, CHAR)
+        is_equal = tree.Constant(BOOLEAN, 1 if part.operator == "=" else 0)
+        return self.call_library("SCANBYTES", count, wanted, is_equal, self.bytes_at(target))
+
+    def bytes_at(self, node):
+        """The base and the index of the bytes that a variable has."""
+        location = self.location(node)
+        if is_packed(location) and not is_byte(location):
+            self.refuse("a part of a packed array or record of fewer than 8 bits has no address",
+                        node.place)
+        return tree.ByteAddress(location)
 
     def memavail(self, _name, node):
         self.take(node, 0)
@@ -120,6 +140,12 @@ class StandardFunctions(Calls):
         if isinstance(symbol, Variable):
             return number(2 * symbol.type.size)
         return number(2 * self.location(argument).type.size)
+
+
+def is_byte(location):
+    """Whether a location is a whole byte, which LDB and STB reach."""
+    return isinstance(location, tree.CharacterAt) or (
+        isinstance(location, tree.ElementAt) and location.base.type.is_bytes)
 
 
 def longest(text):

@@ -16,7 +16,7 @@ class InputOutput(StandardProcedures):
             self.refuse(f"{file} is read, and not written", node.place)
         if name == "WRITE" and not items:
             self.refuse("WRITE has something to write", node.place)
-        statements, text = [], ""
+        statements, text = self.is_open(node, file), ""
         for item in items:
             known = self.known_text(item)
             if known is not None:
@@ -74,7 +74,7 @@ class InputOutput(StandardProcedures):
             self.refuse("OUTPUT is written, and not read", node.place)
         if name == "READ" and not items:
             self.refuse("READ has a variable to read", node.place)
-        unit = number(2 if file == "KEYBOARD" else 1)
+        unit = self.number_of(file)
         statements = [self.item_read(node, item, unit) for item in items]
         if name == "READLN":
             statements.append(self.perform(node, "ENDLINE", unit))

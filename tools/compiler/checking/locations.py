@@ -4,8 +4,8 @@ from ..parsing import syntax
 from . import tree
 from .context import kind_of, low_bit, number
 from .declared_types import TypeMaker
-from .symbols import OpenedField, Variable
-from .types import CHAR, INTEGER, Array, Ordinal, Pointer, Record, String, is_ordinal
+from .symbols import READ_FILES, FileSymbol, OpenedField, Variable
+from .types import CHAR, INTEGER, Array, File, Ordinal, Pointer, Record, String, is_ordinal
 
 
 class Locations(TypeMaker):
@@ -50,7 +50,32 @@ class Locations(TypeMaker):
             self.refuse(f"{base.type} has no field {node.name.written}", node.name.place)
         return tree.FieldAt(field.type, base, field)
 
+    def file_named(self, node):
+        """INPUT, OUTPUT or KEYBOARD, or the location of a file, if that is what is named; else
+        None."""
+        symbol = self.scopes.find(node) if isinstance(node, syntax.Name) else None
+        if isinstance(symbol, Variable) and isinstance(symbol.type, File):
+            return self.location(node)
+        return symbol.name if isinstance(symbol, FileSymbol) else None
+
+    def number_of(self, file):
+        """The number of a file in the library. A variable has it, if the file is open."""
+        if file is None or isinstance(file, str):
+            return number(READ_FILES[file or "INPUT"])
+        return self.call_library("OPENED", tree.Load(INTEGER, file))
+
+    def window(self, file, node):
+        """FILE^: the character that was read last."""
+        if file == "OUTPUT":
+            self.refuse("OUTPUT is written at once, and has no window: take WRITE", node.place)
+        windows = self.library["WINDOW"]
+        whole = tree.VariableAt(windows.type, windows)
+        return tree.ElementAt(CHAR, whole, self.number_of(file))
+
     def target(self, node):
+        file = self.file_named(node.base)
+        if file:
+            return self.window(file, node)
         pointer = self.location(node.base)
         if not isinstance(pointer.type, Pointer) or not pointer.type.target:
             self.refuse_type(node.base, pointer.type, "a pointer")

@@ -1,25 +1,31 @@
 """Checks the procedures of the language, but for READ and WRITE."""
 
+from ..faults import Lack
 from ..parsing import syntax
+from ..parsing.types import FILES
 from . import tree
 from .context import number
 from .functions import StandardFunctions
-from .locations import is_packed
-from .symbols import Routine
-from .types import CHAR, Pointer, String
+from .symbols import READ_FILES, Routine
+from .types import BOOLEAN, CHAR, INTEGER, Pointer, String, is_ordinal
 
 UNITREAD, UNITWRITE, HALT, IOCHECK = 5, 6, 39, 0
+DEVICES = ("CONSOLE:", "SYSTERM:", "PRINTER:", "REMOUT:", "#1:", "#2:", "#6:", "#8:")
+CLOSINGS = {"LOCK", "NORMAL", "PURGE", "CRUNCH"}
 
 
 class StandardProcedures(StandardFunctions):
     def standard_procedure(self, name, node):
         makers = {
-            "DELETE": self.delete, "EXIT": self.exit, "FILLCHAR": self.fillchar,
-            "GOTOXY": self.gotoxy, "HALT": self.halt, "INSERT": self.insert, "MARK": self.mark,
-            "MOVELEFT": self.move, "MOVERIGHT": self.move, "NEW": self.new, "PAGE": self.page,
-            "READ": self.read, "READLN": self.read, "RELEASE": self.release, "STR": self.str,
-            "UNITREAD": self.transfer, "UNITWRITE": self.transfer, "WRITE": self.write,
-            "WRITELN": self.write,
+            "CLOSE": self.close, "DELETE": self.delete, "DISPOSE": self.dispose,
+            "EXIT": self.exit,
+            "FILLCHAR": self.fillchar, "GET": self.get, "GOTOXY": self.gotoxy, "HALT": self.halt,
+            "INSERT": self.insert, "MARK": self.mark, "MOVELEFT": self.move,
+            "MOVERIGHT": self.move, "NEW": self.new, "PAGE": self.page,
+            "READ": self.read, "READLN": self.read, "RELEASE": self.release, "RESET": self.get,
+            "REWRITE": self.rewrite, "STR": self.str, "UNITCLEAR": self.unit_alone,
+            "UNITREAD": self.transfer, "UNITWAIT": self.unit_alone, "UNITWRITE": self.transfer,
+            "WRITE": self.write, "WRITELN": self.write,
         }
         if name not in makers:
             self.refuse(f"{name} is a function: its value goes nowhere", node.place)
@@ -54,18 +60,11 @@ class StandardProcedures(StandardFunctions):
 
     # Bytes
 
-    def bytes_at(self, node):
-        """The base and the index of the bytes that a variable has."""
-        location = self.location(node)
-        if is_packed(location) and not is_byte(location):
-            self.refuse("a part of a packed array or record of fewer than 8 bits has no address",
-                        node.place)
-        return tree.ByteAddress(location)
-
     def fillchar(self, _name, node):
         target, count, character = self.take(node, 3)
         value = self.value(character)
-        self.need(character, value.type, CHAR)
+        if not is_ordinal(value.type, INTEGER):  # of a number the lowest 8 bits are taken
+            self.need(character, value.type, CHAR)
         return self.perform(node, "FILL", self.bytes_at(target), self.integer(count), value)
 
     def move(self, name, node):
@@ -83,6 +82,59 @@ class StandardProcedures(StandardFunctions):
         if not node.place.is_io_checked:
             return done
         return tree.Block([done, self.instruction(node, "CSP", IOCHECK)])
+
+    def unit_alone(self, _name, node):
+        """UNITCLEAR(UNIT) and UNITWAIT(UNIT): nothing waits in a unit."""
+        return self.perform(node, "IGNORE", self.integer(*self.take(node, 1)))
+
+    def get(self, name, node):
+        """GET(FILE) and RESET(FILE), of what is read from the console."""
+        file, rest = self.file_of(node.arguments)
+        if not file or file == "OUTPUT":
+            raise Lack(f"{name}: {FILES}", node.place, FILES)
+        if name == "GET":
+            if rest:
+                self.refuse_count(node.name, "1", len(node.arguments))
+            return self.perform(node, "NEXTKEY", self.number_of(file))
+        if not rest:
+            return self.perform(node, "RESETFILE", self.number_of(file))
+        opened = self.opened(name, node, file, rest)  # it may not be open, under I-
+        return tree.Block(opened + [self.perform(node, "RESETFILE", tree.Load(INTEGER, file))])
+
+    def rewrite(self, name, node):
+        """REWRITE(FILE, NAME); of OUTPUT, or of a file that is open, nothing."""
+        file, rest = self.file_of(node.arguments)
+        if not file or file in READ_FILES:
+            raise Lack(f"{name}: {FILES}", node.place, FILES)
+        return tree.Block(self.opened(name, node, file, rest) if rest else self.is_open(node, file))
+
+    def opened(self, name, node, file, rest):
+        """Opens a file on a device by its name."""
+        if isinstance(file, str) or len(rest) > 1:
+            self.refuse(f"{name} has a variable of the type TEXT, and a name", node.place)
+        text = self.string(rest[0].value)
+        if isinstance(text, tree.TextValue) and text.text.upper() not in DEVICES:
+            raise Lack(f"{name} of {text.text[:24]}: {FILES}; CONSOLE:, SYSTERM:, PRINTER: and "
+                       "REMOUT: are the console", rest[0].value.place, FILES)
+        is_checked = tree.Constant(BOOLEAN, 1 if node.place.is_io_checked else 0)
+        fresh = self.call_library("OPENFILE", tree.StringAddress(text), is_checked)
+        return [tree.Assign(node.place, file, fresh)]
+
+    def is_open(self, node, file):
+        """What looks whether a file is open that is to be written."""
+        if file is None or isinstance(file, str):
+            return []
+        return [self.perform(node, "IGNORE", self.number_of(file))]
+
+    def close(self, name, node):
+        """CLOSE(FILE [, LOCK]), or another word for what becomes of it."""
+        file, rest = self.file_of(node.arguments)
+        words = [it.value.name for it in rest if isinstance(it.value, syntax.Name)]
+        if not file or len(words) != len(rest) or not CLOSINGS.issuperset(words):
+            self.refuse(f"{name} has a file, and LOCK, NORMAL, PURGE or CRUNCH", node.place)
+        if isinstance(file, str):
+            return tree.Block([])
+        return tree.Assign(node.place, file, number(0))
 
     def instruction(self, node, *instruction):
         return tree.Perform(node.place, tree.Operation(None, instruction, []))
@@ -105,6 +157,15 @@ class StandardProcedures(StandardFunctions):
             self.refuse_type(target, location.type, "a pointer to a type")
         size = number(max(1, location.type.target.size))
         return tree.Assign(node.place, location, self.call_library("TAKEROOM", size))
+
+    def dispose(self, _name, node):
+        """DISPOSE(POINTER), which gives nothing back."""
+        target, *tags = self.take(node, 1, 9)
+        for tag in tags:
+            self.ordinal(tag)
+        self.pointer(target)
+        self.faults.note("DISPOSE gives no memory back: MARK and RELEASE do", node.place)
+        return tree.Block([])
 
     def mark(self, _name, node):
         location = self.pointer(*self.take(node, 1))
@@ -139,10 +200,4 @@ class StandardProcedures(StandardFunctions):
         file, rest = self.file_of(node.arguments)
         if rest or file == "INPUT":
             self.refuse("PAGE has the file OUTPUT, or none", node.place)
-        return self.perform(node, "CLEARSCREEN")
-
-
-def is_byte(location):
-    """Whether a location is a whole byte, which LDB and STB reach."""
-    return isinstance(location, tree.CharacterAt) or (
-        isinstance(location, tree.ElementAt) and location.base.type.is_bytes)
+        return tree.Block(self.is_open(node, file) + [self.perform(node, "CLEARSCREEN")])

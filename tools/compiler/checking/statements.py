@@ -6,7 +6,15 @@ from .context import kind_of, low_bit
 from .input_output import InputOutput
 from .locations import is_word
 from .symbols import OpenedField, Routine, Standard, Variable
-from .types import Record, Set, String, is_ordinal, with_article
+from .types import File, Record, Set, String, is_ordinal, with_article
+
+
+def has_same_room(text, location):
+    """Whether a string is a variable of the same declared length as the one that it is assigned to,
+    so that all of its words may be moved. What a VAR parameter names may have less room."""
+    places = [text.location, location] if isinstance(text, tree.Load) else []
+    return bool(places) and text.type.most == location.type.most and not any(
+        isinstance(it, tree.VariableAt) and it.variable.is_address for it in places)
 
 
 class Statements(InputOutput):
@@ -34,13 +42,17 @@ class Statements(InputOutput):
 
     def assign(self, node):
         location = self.assigned(node.target)
+        if isinstance(location.type, File):
+            self.refuse("a file is not assigned: RESET and REWRITE open it", node.place)
         value, kind = self.value(node.value), location.type
         if is_word(kind):
             value = self.fitted(value, kind, node.value, node.place.is_checked)
             return tree.Assign(node.place, location, value)
         if isinstance(kind, String):
-            most = tree.Constant(None, kind.most)
-            source = tree.StringAddress(self.string(node.value))
+            most, text = tree.Constant(None, kind.most), self.string(node.value)
+            if has_same_room(text, location):
+                return tree.MoveWords(node.place, location, tree.Address(text.location), kind.size)
+            source = tree.StringAddress(text)
             return self.perform(node, "ASSIGN", tree.Address(location), source, most)
         if isinstance(kind, Set) and not isinstance(value.type, Set):
             self.refuse_type(node.value, value.type, with_article(kind))

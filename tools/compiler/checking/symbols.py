@@ -1,37 +1,40 @@
 """What names mean, and where they are looked for."""
 
-from dataclasses import dataclass, field
 from typing import Any, Dict, List, Optional
 
 from pcode.faults import Fault
+from pcode.fields import Fields
 
-from ..faults import Known, Place
-from .types import BOOLEAN, CHAR, INTEGER, MOST_WORDS, Pointer, String
+from ..faults import Known, Lack, Place
+from ..parsing.lexer import REALS
+from ..parsing.types import FILES
+from .types import BOOLEAN, CHAR, INTEGER, MOST_WORDS, File, Pointer, String
 
 STANDARD_PROCEDURES = (
-    "DELETE EXIT FILLCHAR GOTOXY HALT INSERT MARK MOVELEFT MOVERIGHT NEW PAGE READ READLN RELEASE "
-    "STR UNITREAD UNITWRITE WRITE WRITELN").split()
+    "CLOSE DELETE DISPOSE EXIT FILLCHAR GET GOTOXY HALT INSERT MARK MOVELEFT MOVERIGHT NEW "
+    "PAGE READ READLN RELEASE RESET REWRITE STR UNITCLEAR UNITREAD UNITWAIT UNITWRITE WRITE "
+    "WRITELN").split()
 STANDARD_FUNCTIONS = (
-    "ABS CHR CONCAT COPY EOF EOLN IORESULT LENGTH MEMAVAIL ODD ORD POS PRED SIZEOF SQR SUCC"
+    "ABS CHR CONCAT COPY EOF EOLN IORESULT LENGTH MEMAVAIL ODD ORD POS PRED SCAN SIZEOF SQR SUCC "
+    "UNITBUSY"
 ).split()
-FILES = {"INPUT": 1, "OUTPUT": 1, "KEYBOARD": 2}
+READ_FILES = {"INPUT": 1, "KEYBOARD": 2}  # with their numbers in the library
+TEXT = File()
+STANDARD_FILES = ("INPUT", "OUTPUT", "KEYBOARD")
 
 
-@dataclass
-class ConstantSymbol:
+class ConstantSymbol(Fields):
     """`value` is a number, or of a text in quotes a string."""
 
     type: Any
     value: Any
 
 
-@dataclass
-class TypeSymbol:
+class TypeSymbol(Fields):
     type: Any
 
 
-@dataclass
-class Variable:
+class Variable(Fields):
     """A variable at an offset of its routine's frame, or one whose address is there."""
 
     type: Any
@@ -40,43 +43,40 @@ class Variable:
     is_address: bool = False
 
 
-@dataclass
-class Standard:
+class Standard(Fields):
     """A procedure or function of the language."""
 
     name: str
 
 
-@dataclass
-class FileSymbol:
+class FileSymbol(Fields):
     """INPUT, OUTPUT or KEYBOARD."""
 
     name: str
 
 
-@dataclass
-class OpenedField:
+class OpenedField(Fields):
     """A field of a record that a WITH has opened."""
 
     opening: Any
     field: Any
 
 
-@dataclass
-class Broken:
-    """A name whose declaration has a fault, which has been told."""
+class Broken(Fields):
+    """A name whose declaration has a fault, which has been told; or that needs what is not there,
+    which is counted."""
+
+    feature: Optional[str] = None
 
 
-@dataclass
-class Parameter:
+class Parameter(Fields):
     name: str
     type: Any
     is_var: bool
     place: Place
 
 
-@dataclass
-class Copy:
+class Copy(Fields):
     """A value parameter of several words: its address comes, and its words are copied."""
 
     offset: int
@@ -84,8 +84,7 @@ class Copy:
     type: Any
 
 
-@dataclass(eq=False)
-class Routine:
+class Routine(Fields):
     """A procedure or function; at level 0 the program."""
 
     name: str
@@ -94,13 +93,13 @@ class Routine:
     place: Optional[Place]
     is_library: bool = False
     number: int = 0
-    parameters: List[Parameter] = field(default_factory=list)
+    parameters: List[Parameter] = list
     result: Any = None
     is_forward: bool = False
     words: int = 0  # of the frame so far
     parameter_words: int = 0
-    copies: List[Copy] = field(default_factory=list)
-    labels: Dict[int, Any] = field(default_factory=dict)  # declared, set, or where it is used
+    copies: List[Copy] = list
+    labels: Dict[int, Any] = dict  # declared, set, or where it is used
     body: Any = None  # the checked tree
 
     def allocate(self, words, place) -> int:
@@ -116,12 +115,13 @@ class Routine:
 def standard_scope():
     """What is known without a declaration."""
     scope = {"INTEGER": TypeSymbol(INTEGER), "BOOLEAN": TypeSymbol(BOOLEAN),
+             "TEXT": TypeSymbol(TEXT), "INTERACT": TypeSymbol(TEXT),
              "CHAR": TypeSymbol(CHAR), "STRING": TypeSymbol(String(80)),
              "FALSE": ConstantSymbol(BOOLEAN, 0), "TRUE": ConstantSymbol(BOOLEAN, 1),
              "MAXINT": ConstantSymbol(INTEGER, 32767), "NIL": ConstantSymbol(Pointer(), 0)}
     for name in STANDARD_PROCEDURES + STANDARD_FUNCTIONS:
         scope[name[:8]] = Standard(name)
-    for name in FILES:
+    for name in STANDARD_FILES:
         scope[name] = FileSymbol(name)
     return scope
 
@@ -131,6 +131,7 @@ class Scopes:
 
     def __init__(self):
         self.scopes = [standard_scope()]
+        self.units = None  # the feature that names which are not declared are taken for
 
     def open(self, names=None):
         self.scopes.append({} if names is None else names)
@@ -156,32 +157,32 @@ class Scopes:
             if name.name in scope:
                 symbol = scope[name.name]
                 if isinstance(symbol, Broken):
-                    raise Known
+                    raise Known(symbol.feature)
                 return symbol
-        self.scopes[-1][name.name] = Broken()
-        raise Fault(refusal_of(name), name.place)
+        fault = refusal_of(name)
+        feature = fault.feature if isinstance(fault, Lack) else self.units
+        self.scopes[-1][name.name] = Broken(feature)
+        if feature and feature == self.units:
+            raise Known(feature)
+        raise fault
 
 
 def hint_of(name):
     return " (of a name the first 8 characters count)" if len(name.written) > 8 else ""
 
 
-REALS = "there are no real numbers: take an INTEGER, of hundredths or the like"
+REALS_ABSENT = "there are no real numbers: take an INTEGER, of hundredths or the like"
 ABSENT = {
-    "there are no files: keep the data in an array, or read it from the console":
-        "TEXT INTERACTIVE RESET REWRITE CLOSE GET PUT SEEK BLOCKREAD BLOCKWRITE",
+    FILES: "PUT SEEK BLOCKREAD BLOCKWRITE",
     REALS: "REAL SIN COS ATAN EXP LN LOG SQRT TRUNC ROUND PWROFTEN",
     "there is no clock, so that all nodes of a group see the same: READ the time": "TIME",
-    "it is not there: a unit is never busy, and nothing waits in it":
-        "UNITCLEAR UNITBUSY UNITWAIT",
-    "there is no DISPOSE in UCSD Pascal II.0: MARK and RELEASE give memory back": "DISPOSE",
-    "there are no long integers": "LONG",
     "it is of the p-System's own programs": "IDSEARCH TREESEARCH UNITSTATUS MEMLOCK MEMSWAP",
 }
 
 
 def refusal_of(name):
-    for why, names in ABSENT.items():
+    for feature, names in ABSENT.items():
         if name.name in [it[:8] for it in names.split()]:
-            return f"{name.written}: {why}"
-    return f"{name.written} is not declared"
+            why = REALS_ABSENT if feature == REALS else feature
+            return Lack(f"{name.written}: {why}", name.place, feature)
+    return Fault(f"{name.written} is not declared", name.place)

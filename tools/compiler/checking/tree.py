@@ -4,38 +4,35 @@ A node of it says what the machine has to do, so that the generator needs to kno
 rules of Pascal. Values, locations and addresses have a type; statements have a place.
 """
 
-from dataclasses import dataclass
 from typing import Any, List, Optional, Tuple
+
+from pcode.fields import Fields
 
 from ..faults import Place
 
 
 # Values
 
-@dataclass
-class Constant:
+class Constant(Fields):
     type: Any
     value: int
 
 
-@dataclass
-class TextValue:
+class TextValue(Fields):
     """A text in quotes."""
 
     type: Any
     text: str
 
 
-@dataclass
-class Load:
+class Load(Fields):
     """The value at a location."""
 
     type: Any
     location: Any
 
 
-@dataclass
-class Operation:
+class Operation(Fields):
     """An instruction, with operands of its own, on values that are pushed."""
 
     type: Any
@@ -43,8 +40,7 @@ class Operation:
     operands: List[Any]
 
 
-@dataclass
-class Call:
+class Call(Fields):
     """A call; of a function its value."""
 
     type: Any
@@ -52,8 +48,7 @@ class Call:
     arguments: List[Any]
 
 
-@dataclass
-class Among:
+class Among(Fields):
     """VALUE IN [PARTS]: each part is a value, or two."""
 
     type: Any
@@ -61,14 +56,12 @@ class Among:
     parts: List[Tuple[Any, Optional[Any]]]
 
 
-@dataclass
-class Concatenation:
+class Concatenation(Fields):
     type: Any
     parts: List[Any]
 
 
-@dataclass
-class Copied:
+class Copied(Fields):
     """COPY(TEXT, AT, COUNT)."""
 
     type: Any
@@ -77,16 +70,14 @@ class Copied:
     count: Any
 
 
-@dataclass
-class SetValue:
+class SetValue(Fields):
     """[PARTS]: each part is a value, or two."""
 
     type: Any
     parts: List[Tuple[Any, Optional[Any]]]
 
 
-@dataclass
-class SetOperation:
+class SetOperation(Fields):
     """`routine` of the library changes the left set by the right one."""
 
     type: Any
@@ -97,25 +88,21 @@ class SetOperation:
 
 # Addresses, which are pushed as arguments
 
-@dataclass
-class Address:
+class Address(Fields):
     location: Any
 
 
-@dataclass
-class ByteAddress:
+class ByteAddress(Fields):
     """A base and an index, two words."""
 
     location: Any
 
 
-@dataclass
-class StringAddress:
+class StringAddress(Fields):
     value: Any
 
 
-@dataclass
-class SetAddress:
+class SetAddress(Fields):
     """The address of a set of so many words."""
 
     value: Any
@@ -124,29 +111,25 @@ class SetAddress:
 
 # Locations
 
-@dataclass
-class VariableAt:
+class VariableAt(Fields):
     type: Any
     variable: Any
 
 
-@dataclass
-class Target:
+class Target(Fields):
     """What a pointer points to."""
 
     type: Any
     pointer: Any
 
 
-@dataclass
-class ElementAt:
+class ElementAt(Fields):
     type: Any
     base: Any
     index: Any
 
 
-@dataclass
-class CharacterAt:
+class CharacterAt(Fields):
     """A character of a string."""
 
     type: Any
@@ -155,15 +138,13 @@ class CharacterAt:
     is_checked: bool
 
 
-@dataclass
-class FieldAt:
+class FieldAt(Fields):
     type: Any
     base: Any
     field: Any
 
 
-@dataclass(eq=False)
-class Opening:
+class Opening(Fields):
     """A record that a WITH opens, once for its whole statement. The generator says where it is:
     at a place of a frame, or where an address is kept."""
 
@@ -173,21 +154,18 @@ class Opening:
     is_frame: bool = False
 
 
-@dataclass
-class Opened:
+class Opened(Fields):
     type: Any
     opening: Opening
 
 
 # Statements
 
-@dataclass
-class Block:
+class Block(Fields):
     statements: List[Any]
 
 
-@dataclass
-class Assign:
+class Assign(Fields):
     """Stores a value of one word."""
 
     place: Place
@@ -195,8 +173,7 @@ class Assign:
     value: Any
 
 
-@dataclass
-class MoveWords:
+class MoveWords(Fields):
     """Copies words from an address to a location."""
 
     place: Place
@@ -205,8 +182,7 @@ class MoveWords:
     words: int
 
 
-@dataclass
-class StoreText:
+class StoreText(Fields):
     """Stores a text in quotes in an array of characters."""
 
     place: Place
@@ -214,24 +190,21 @@ class StoreText:
     text: str
 
 
-@dataclass
-class WriteText:
+class WriteText(Fields):
     """Writes a text that is known."""
 
     place: Place
     text: str
 
 
-@dataclass
-class Perform:
+class Perform(Fields):
     """Pushes nothing that stays: a call of a procedure, or an instruction."""
 
     place: Place
     value: Any
 
 
-@dataclass
-class Transfer:
+class Transfer(Fields):
     """UNITREAD or UNITWRITE: the standard procedure's number and its six words."""
 
     place: Place
@@ -239,39 +212,34 @@ class Transfer:
     values: List[Any]
 
 
-@dataclass
-class Exit:
+class Exit(Fields):
     """EXIT(ROUTINE)."""
 
     place: Place
     routine: Any
 
 
-@dataclass
-class If:
+class If(Fields):
     place: Place
     test: Any
     yes: Any
     no: Any
 
 
-@dataclass
-class While:
+class While(Fields):
     place: Place
     test: Any
     body: Any
 
 
-@dataclass
-class Repeat:
+class Repeat(Fields):
     place: Place
     body: Any
     test: Any
     until: Place
 
 
-@dataclass
-class For:
+class For(Fields):
     place: Place
     location: Any
     start: Any
@@ -280,28 +248,24 @@ class For:
     body: Any
 
 
-@dataclass
-class Case:
+class Case(Fields):
     place: Place
     selector: Any
     branches: List[Tuple[List[int], Any]]
 
 
-@dataclass
-class With:
+class With(Fields):
     place: Place
     openings: List[Opening]
     body: Any
 
 
-@dataclass
-class Goto:
+class Goto(Fields):
     place: Place
     label: int
 
 
-@dataclass
-class Labelled:
+class Labelled(Fields):
     place: Place
     label: int
     statement: Any

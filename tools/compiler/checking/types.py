@@ -4,8 +4,9 @@ A word has 16 bits, and an address of a word is that of its low byte. In a packe
 values of few bits share a word, the first in the lowest bits; none lies in two words.
 """
 
-from dataclasses import dataclass
 from typing import Any, Dict, Optional
+
+from pcode.fields import Fields
 
 WORD = 16
 MOST_WORDS = 16383  # of all variables of a frame
@@ -65,8 +66,7 @@ class Array:
         return f"{'PACKED ' * self.is_packed}ARRAY[{self.index}] OF {self.element}"
 
 
-@dataclass
-class Field:
+class Field(Fields):
     """A field: its word in the record, and of a packed one its bits."""
 
     type: Any
@@ -124,8 +124,16 @@ class Pointer:
         return f"^{self.name}" if self.name else "pointer"
 
 
-@dataclass
-class TextType:
+class File:
+    """TEXT or INTERACTIVE: a word, which is 0 or the number of the file in the library."""
+
+    size = 1
+
+    def __str__(self):
+        return "TEXT"
+
+
+class TextType(Fields):
     """The type of a text in quotes that is not one character."""
 
     length: int

@@ -1,16 +1,25 @@
 """Checks expressions."""
 
+import operator
+
+from ..faults import Lack
 from ..parsing import syntax
+from ..parsing.expressions import PARENTHESES
+from ..parsing.lexer import REALS
 from . import tree
 from .context import kind_of, low_bit, number
 from .locations import Locations, is_text_literal, is_word, literal_text
 from .symbols import ConstantSymbol, FileSymbol, OpenedField, Routine, Standard, Variable
-from .types import (BOOLEAN, CHAR, INTEGER, Array, Pointer, Set, String, TextType, is_ordinal,
+from .types import (BOOLEAN, CHAR, INTEGER, Array, File, Pointer, Set, String, TextType, is_ordinal,
                     is_same, with_article, wrap)
 
 ARITHMETIC = {"+": "ADI", "-": "SBI", "*": "MPI", "DIV": "DVI", "MOD": "MODI"}
 BITWISE = {"AND": "LAND", "OR": "LOR"}
 COMPARISONS = {"=": "EQU", "<>": "NEQ", "<": "LES", "<=": "LEQ", ">": "GRT", ">=": "GEQ"}
+
+
+def is_file(kind):
+    return isinstance(kind, File)
 
 
 def divided(left, right):
@@ -21,6 +30,9 @@ def divided(left, right):
 
 FOLDED = {"+": lambda a, b: a + b, "-": lambda a, b: a - b, "*": lambda a, b: a * b,
           "DIV": divided, "MOD": lambda a, b: a - b * divided(a, b)}
+JOINED = {"AND": operator.and_, "OR": operator.or_}
+COMPARED = {"=": operator.eq, "<>": operator.ne, "<": operator.lt, "<=": operator.le,
+            ">": operator.gt, ">=": operator.ge}
 
 
 class Values(Locations):
@@ -88,8 +100,14 @@ class Values(Locations):
         return value
 
     def unary(self, node):
+        if node.operator in ("=", "<>"):
+            self.refuse(f"{node.operator} in front of a value is of SCAN's second parameter alone",
+                        node.place)
         if node.operator == "NOT":
-            return tree.Operation(BOOLEAN, ("LNOT",), [self.boolean(node.operand)])
+            value = self.boolean(node.operand)
+            if isinstance(value, tree.Constant):  # all 16 bits
+                return tree.Constant(BOOLEAN, -1 - value.value)
+            return tree.Operation(BOOLEAN, ("LNOT",), [value])
         if isinstance(node.operand, syntax.Number) and node.operator == "-":
             return tree.Constant(INTEGER, -node.operand.value)
         value = self.integer(node.operand)
@@ -102,15 +120,19 @@ class Values(Locations):
     def operation(self, node):
         left, right = self.value(node.left), self.value(node.right)
         if node.operator == "/":
-            self.refuse("/ divides real numbers, and there are none: DIV divides an INTEGER",
-                        node.place)
+            raise Lack("/ divides real numbers, and there are none: DIV divides an INTEGER",
+                       node.place, REALS)
         if node.operator == "IN":
             return self.membership(node, left, right)
         if node.operator in COMPARISONS:
             return self.comparison(node, left, right)
         if node.operator in BITWISE:
-            self.need(node.left, left.type, BOOLEAN)
-            self.need(node.right, right.type, BOOLEAN)
+            for part, value in ((node.left, left), (node.right, right)):
+                if is_ordinal(value.type, INTEGER):
+                    self.refuse_type(part, value.type, "a BOOLEAN", PARENTHESES)
+                self.need(part, value.type, BOOLEAN)
+            if isinstance(left, tree.Constant) and isinstance(right, tree.Constant):
+                return tree.Constant(BOOLEAN, JOINED[node.operator](left.value, right.value))
             return tree.Operation(BOOLEAN, (BITWISE[node.operator],), [left, right])
         if node.operator in "+-*" and isinstance(left.type, Set) and isinstance(right.type, Set):
             return self.set_operation(node, left, right)
@@ -151,6 +173,9 @@ class Values(Locations):
     def compared_words(self, node, left, right):
         if left.type.host is not right.type.host:
             self.refuse_type(node.right, right.type, with_article(left.type.host))
+        if isinstance(left, tree.Constant) and isinstance(right, tree.Constant):
+            holds = COMPARED[node.operator](low_bit(left).value, low_bit(right).value)
+            return tree.Constant(BOOLEAN, int(holds))
         if left.type.host is BOOLEAN:  # by the lowest bits
             instruction = (COMPARISONS[node.operator], 6)
             return tree.Operation(BOOLEAN, instruction, [left, right])
@@ -163,7 +188,7 @@ class Values(Locations):
             order = self.call_library("COMPAREBYTES", self.characters(left), self.characters(right),
                                       number(sizes[0]))
             return self.compared(node, order, number(0))
-        is_block = isinstance(left, tree.Load) and not is_word(left.type)
+        is_block = isinstance(left, tree.Load) and not is_word(left.type) | is_file(left.type)
         is_equality = node.operator in ("=", "<>")
         if not is_block or not is_equality or not is_same(left.type, right.type):
             self.refuse(f"{with_article(left.type)} and {with_article(right.type)} cannot be "

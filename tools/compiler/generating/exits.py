@@ -1,6 +1,6 @@
 """Which calls may end more than the routine that they call, by EXIT."""
 
-from dataclasses import fields, is_dataclass
+from pcode.fields import Fields
 
 from ..checking import tree
 
@@ -12,9 +12,9 @@ def nodes_of(node):
         it = waiting.pop()
         if isinstance(it, (list, tuple)):
             waiting.extend(it)
-        elif is_dataclass(it) and type(it).__module__ == tree.__name__:
+        elif isinstance(it, Fields) and type(it).__module__ == tree.__name__:
             yield it
-            waiting.extend(getattr(it, field.name) for field in fields(it))
+            waiting.extend(it.fields())
 
 
 def exits_of(routines):

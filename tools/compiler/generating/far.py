@@ -17,6 +17,8 @@ TABLE = "TABLE"
 
 def spread(procedure):
     """The same procedure, with at most 60 targets in its table."""
+    if len(procedure.labels) <= MOST_FAR:
+        return procedure
     chosen = []  # labels that are reached in two steps
     while True:
         made = rewritten(procedure, chosen) if chosen else procedure

@@ -94,6 +94,7 @@ class Generator:
         return [self.make(self.main)] + made
 
     def make(self, routine):
+        self.library.complete(routine)
         return RoutineGenerator(self, routine).procedure()
 
     def number_of(self, routine):

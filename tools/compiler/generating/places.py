@@ -1,14 +1,14 @@
 """Locations: what is pushed for one, and how it is loaded and stored then."""
 
-from dataclasses import dataclass
 from typing import Any
+
+from pcode.fields import Fields
 
 from ..checking import tree
 from .code import ADDRESSES, LOADS, STORES, Code
 
 
-@dataclass
-class Frame:
+class Frame(Fields):
     """A word of a frame: nothing is pushed."""
 
     routine: Any
@@ -18,8 +18,7 @@ class Frame:
         return Frame(self.routine, self.offset + words)
 
 
-@dataclass
-class Pointer:
+class Pointer(Fields):
     """An address is pushed, and the word lies so many words behind it."""
 
     offset: int = 0

@@ -38,6 +38,29 @@ BEGIN
   SAMEWORDS := SAME
 END;
 
+PROCEDURE IGNORE(N: INTEGER);
+BEGIN
+END;
+
+{ How far it is from byte AT of S to the first character that is C, or is not
+  where it is not WANTED; N if that is not met in N bytes. Below 0 it goes back }
+FUNCTION SCANBYTES(N: INTEGER; C: CHAR; WANTED: BOOLEAN; VAR S: BYTES; AT: INTEGER): INTEGER;
+VAR
+  I, STEP: INTEGER;
+  FOUND: BOOLEAN;
+BEGIN
+  STEP := 1;
+  IF N < 0 THEN STEP := -1;
+  I := 0;
+  FOUND := FALSE;
+  WHILE (I <> N) AND NOT FOUND DO
+    BEGIN
+      FOUND := (S[AT + I] = C) = WANTED;
+      IF NOT FOUND THEN I := I + STEP
+    END;
+  SCANBYTES := I
+END;
+
 PROCEDURE FILL(VAR D: BYTES; AT, N: INTEGER; C: CHAR);
 VAR
   I: INTEGER;

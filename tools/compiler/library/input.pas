@@ -42,6 +42,61 @@ BEGIN
   ISBACK := B
 END;
 
+PROCEDURE RESETFILE(F: INTEGER);         { what has been read is as if it had not }
+BEGIN
+  IF (F = 1) OR (F = 2) THEN
+    BEGIN
+      ISFULL[F] := FALSE;
+      ISEOLN[F] := FALSE;
+      ISEOF[F] := FALSE
+    END
+END;
+
+{ The file that a name means: 1 for the console, 2 for SYSTERM:, which shows
+  nothing. IORESULT is 2 if it means none, and under I+ that is said }
+FUNCTION OPENFILE(VAR S: BYTES; ISCHECKED: BOOLEAN): INTEGER;
+VAR
+  N: STRING[9];
+  C: CHAR;
+  I: INTEGER;
+BEGIN
+  N := '';
+  FOR I := 1 TO ORD(S[0]) DO
+    IF I < 10 THEN
+      BEGIN
+        N[I] := S[I];
+        IF (S[I] >= 'a') AND (S[I] <= 'z') THEN N[I] := CHR(ORD(S[I]) - 32);
+        N[0] := CHR(I)
+      END;
+  UNITWRITE(1, C, 0);
+  IF (N = 'SYSTERM:') OR (N = '#2:') THEN OPENFILE := 2
+  ELSE IF (N = 'CONSOLE:') OR (N = 'PRINTER:') OR (N = 'REMOUT:') OR (N = '#1:')
+    OR (N = '#6:') OR (N = '#8:') THEN OPENFILE := 1
+  ELSE
+    BEGIN
+      OPENFILE := 0;
+      IF ISCHECKED THEN
+        BEGIN
+          WRITE('there is no file ');
+          WRITEPART(S, 1, ORD(S[0]), 0);
+          PUTCHAR(CHR(LINEEND));
+          UNITWRITE(9, C, 1)               { error 10: files are devices alone }
+        END
+      ELSE
+        BEGIN
+          {$I-} UNITWRITE(9, C, 1) {$I+}
+        END
+    END
+END;
+
+FUNCTION OPENED(F: INTEGER): INTEGER;    { F, if it is the number of a file }
+VAR
+  NUMBER: 1..2;
+BEGIN
+  {$R+} NUMBER := F; {$R-}               { error 1: the file is not open }
+  OPENED := F
+END;
+
 FUNCTION ATEOLN(F: INTEGER): BOOLEAN;
 BEGIN
   ATEOLN := ISEOLN[F]

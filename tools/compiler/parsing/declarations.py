@@ -3,12 +3,16 @@
 from pcode.faults import Fault
 
 from . import syntax
-from .lexer import END
+from .lexer import BAD, END
 from .types import TypeParser
 
 PARTS = ("LABEL", "CONST", "TYPE", "VAR", "PROCEDUR", "FUNCTION", "SEGMENT", "BEGIN", "USES", END)
-NO_UNITS = ("there are no units: put the procedures of {0} into this text, or include its file by "
-            "{{$I NAME}}")
+
+
+def no_unit(name):
+    """What is said of a unit that is used."""
+    return (f"there are no units: put the procedures of {name} into this text, or include its file "
+            "by {$I NAME}")
 
 
 class Parser(TypeParser):
@@ -18,6 +22,7 @@ class Parser(TypeParser):
         if self.kind == "UNIT":
             self.refuse("this is a UNIT, and there are none: a text begins with PROGRAM, and its "
                         "procedures stand in it")
+        self.units = []
         place = self.want("PROGRAM", " at the beginning").place
         name = self.name()
         if self.take("("):
@@ -26,7 +31,7 @@ class Parser(TypeParser):
         self.want(";")
         block = self.block()
         self.want(".", " behind the last END")
-        return syntax.Program(place, name, block)
+        return syntax.Program(place, name, self.units, block)
 
     def library(self):
         """Declarations alone, as the run-time library has them."""
@@ -36,9 +41,12 @@ class Parser(TypeParser):
 
     def block(self):
         place, declarations = self.place, self.declarations()
-        if self.kind != "BEGIN":
+        if self.kind == "BEGIN":
+            return syntax.Block(place, declarations, self.compound())
+        if not self.is_statement():
             self.refuse(f"BEGIN or a declaration is wanted, and not {self.now}")
-        return syntax.Block(place, declarations, self.compound())
+        self.faults.add(Fault("BEGIN is missing in front of this statement", self.place))
+        return syntax.Block(place, declarations, self.statements_and_end(place))
 
     def declarations(self):
         readers = {"LABEL": self.labels, "CONST": self.constants_part, "TYPE": self.types_part,
@@ -51,8 +59,11 @@ class Parser(TypeParser):
                     found += readers[self.kind]()
                 elif self.kind in ("PROCEDUR", "FUNCTION"):
                     found.append(self.nest(self.routine))
+                elif self.kind == "SEGMENT":
+                    self.segment()
+                elif self.kind == "USES":
+                    self.uses()
                 else:
-                    self.refuse_part()
                     return found
             except Fault as fault:
                 self.faults.add(fault)
@@ -60,19 +71,30 @@ class Parser(TypeParser):
                     self.next()
                 self.skip_to(PARTS)
 
-    def refuse_part(self):
-        """Refuses what may stand in place of a declaration in UCSD Pascal, and not here."""
-        if self.kind == "USES":
-            self.next()
-            self.refuse(NO_UNITS.format(self.now))
-        if self.kind == "SEGMENT":
-            self.refuse("there are no segment procedures, since a program is one segment: leave "
-                        "out the word SEGMENT")
+    def uses(self):
+        """USES NAME, NAME ..: there are no units."""
+        self.next()
+        for name in self.names():
+            self.lack(no_unit(name.written), name.place)
+            self.units.append(name.written)
+        self.want(";")
 
-    def each(self, read):
+    def segment(self):
+        """SEGMENT in front of a procedure."""
+        place = self.next().place
+        if self.kind not in ("PROCEDUR", "FUNCTION"):
+            self.refuse(f"PROCEDURE or FUNCTION is wanted behind SEGMENT, and not {self.now}")
+        self.faults.note("SEGMENT changes nothing: a program is one segment here", place)
+
+    def is_statement_behind(self, part):
+        """Whether what comes in a part is a statement. CONST A := 1 is none."""
+        is_constant = part == "CONST" and self.tokens[self.at + 1].kind == ":="
+        return self.kind == "name" and self.is_statement() and not is_constant
+
+    def each(self, part, read):
         """What stands in a part, each with a ; behind it. A fault costs one of them."""
         found = []
-        while self.kind == "name":
+        while self.kind in ("name", BAD) and not self.is_statement_behind(part):
             try:
                 found.append(read())
                 self.want(";")
@@ -93,8 +115,7 @@ class Parser(TypeParser):
                 return found
 
     def constants_part(self):
-        self.next()
-        return self.each(self.constant_declaration)
+        return self.each(self.next().kind, self.constant_declaration)
 
     def constant_declaration(self):
         name = self.name()
@@ -102,8 +123,7 @@ class Parser(TypeParser):
         return syntax.ConstDeclaration(name.place, name, self.constant())
 
     def types_part(self):
-        self.next()
-        return self.each(self.type_declaration) + [syntax.TypesEnd(self.place)]
+        return self.each(self.next().kind, self.type_declaration) + [syntax.TypesEnd(self.place)]
 
     def type_declaration(self):
         name = self.name()
@@ -111,8 +131,8 @@ class Parser(TypeParser):
         return syntax.TypeDeclaration(name.place, name, self.type())
 
     def variables_part(self):
-        self.next()
-        return self.each(self.variable_declaration) + [syntax.TypesEnd(self.place)]
+        found = self.each(self.next().kind, self.variable_declaration)
+        return found + [syntax.TypesEnd(self.place)]
 
     def variable_declaration(self):
         place, names = self.place, self.names()
@@ -121,17 +141,41 @@ class Parser(TypeParser):
 
     def routine(self):
         is_function = self.next().kind == "FUNCTION"
-        name = self.name()
+        name, begin = self.name(), self.at
+        try:
+            parameters, result = self.heading(is_function)
+        except Fault as fault:
+            self.faults.add(fault)
+            self.at = begin
+            self.skip_heading()
+            absent = syntax.AbsentType(name.place, None)
+            result, parameters = None, [syntax.ParameterGroup(name.place, False, [], absent)]
+        if self.kind == "EXTERNAL":
+            place = self.next().place
+            self.lack("there are no external procedures: write it in Pascal", place)
+            block = syntax.Block(place, [], syntax.Compound(place, []))
+        else:
+            block = None if self.take("FORWARD") else self.block()
+        self.want(";", f" behind {name.written}")
+        return syntax.RoutineDeclaration(name.place, name, is_function, parameters, result, block)
+
+    def heading(self, is_function):
+        """The parameters, and the type of a function."""
         parameters = self.parameters() if self.take("(") else None
         result = None
         if is_function and self.take(":"):
             result = self.name(" as the type of a function")
         self.want(";")
-        if self.kind == "EXTERNAL":
-            self.refuse("there are no external procedures: write it in Pascal")
-        block = None if self.take("FORWARD") else self.block()
-        self.want(";", f" behind {name.written}")
-        return syntax.RoutineDeclaration(name.place, name, is_function, parameters, result, block)
+        return parameters, result
+
+    def skip_heading(self):
+        """Leaves out a heading with a fault, to its block."""
+        opened = 0
+        while self.kind not in (END, "BEGIN", "PROCEDUR", "FUNCTION", "FORWARD", "EXTERNAL"):
+            if not opened and self.kind in PARTS:
+                return
+            opened += {"(": 1, ")": -1}.get(self.kind, 0)
+            self.next()
 
     def parameters(self):
         found = []
@@ -139,6 +183,9 @@ class Parser(TypeParser):
             place, is_var = self.place, bool(self.take("VAR"))
             names = self.names()
             self.want(":", " behind the names of parameters")
+            if self.kind in ("ARRAY", "PACKED"):
+                self.refuse("UCSD Pascal had no conformant arrays: declare the array under TYPE, "
+                            "and take its name as the type of a parameter")
             if self.kind != "name":
                 self.refuse("the type of a parameter is a name: declare it under TYPE")
             found.append(syntax.ParameterGroup(place, is_var, names, self.simple_type()))

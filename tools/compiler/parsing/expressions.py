@@ -1,10 +1,12 @@
 """The parser of expressions."""
 
 from . import syntax
+from .lexer import REALS
 from .reader import Reader
 
 COMPARISONS = ("=", "<>", "<", "<=", ">", ">=", "IN")
 TRANSFERS = ("UNITREAD", "UNITWRIT")
+PARENTHESES = ". AND and OR come before comparisons: write (A = B) AND (C = D)"
 MOST_OPERATORS = 500  # in a row, so that the tree does not become too deep
 
 
@@ -14,10 +16,15 @@ class ExpressionParser(Reader):
 
     def comparison(self):
         left = self.sum()
+        if self.kind not in COMPARISONS:
+            return left
+        token = self.next()
+        right = self.sum()
         if self.kind in COMPARISONS:
-            token = self.next()
-            return syntax.Operation(token.place, token.kind, left, self.sum())
-        return left
+            is_joined = isinstance(right, syntax.Operation) and right.operator in ("AND", "OR")
+            hint = PARENTHESES if is_joined else ": put the first one into parentheses"
+            self.refuse(f"a comparison is not compared by {self.now}{hint}")
+        return syntax.Operation(token.place, token.kind, left, right)
 
     def sum(self):
         if self.kind in ("+", "-"):
@@ -115,11 +122,15 @@ class ExpressionParser(Reader):
             token = self.next()
             return syntax.Argument(place, syntax.Name(place, token.value, token.written))
         if self.kind in ("=", "<>"):  # of SCAN alone
-            self.refuse("SCAN is not there: look for the character in a loop")
+            token = self.next()
+            return syntax.Argument(place, syntax.Unary(place, token.kind, self.expression()))
         value = self.expression()
         width = self.expression() if self.take(":") else None
         if width and self.kind == ":":
-            self.refuse("places behind a point are of real numbers, and there are none")
+            token = self.next()
+            self.lack("places behind a point are of real numbers, and there are none", token.place,
+                      REALS)
+            self.expression()
         return syntax.Argument(place, value, width)
 
     def constant(self):

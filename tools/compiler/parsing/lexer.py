@@ -6,7 +6,8 @@ from typing import Any, List, NamedTuple
 
 from pcode.faults import Fault
 
-from ..faults import Place
+from ..faults import Lack, Place
+from .texts import included_path, read_text
 
 # Of a word the first eight characters count.
 KEYWORDS = {word[:8] for word in (
@@ -14,6 +15,7 @@ KEYWORDS = {word[:8] for word in (
     "IMPLEMENTATION IN INTERFACE LABEL MOD NOT OF OR PACKED PROCEDURE PROGRAM RECORD REPEAT "
     "SEGMENT SET THEN TO TYPE UNIT UNTIL USES VAR WHILE WITH").split()}
 END = "the end of the text"
+BAD = "what is no token"
 TOKEN = re.compile(r"""
     (?P<blank> [ \t\f]+ | \n )
   | (?P<comment> \{ | \(\* )
@@ -26,7 +28,6 @@ TOKEN = re.compile(r"""
 BRACKETS = {"(.": "[", ".)": "]"}
 DIGITS = 5  # of the greatest number
 MOST_INCLUDED = 20
-BYTE_ORDER_MARK = "\xef\xbb\xbf"  # which some editors put in front of a text
 MOST_TEXT = 255
 
 # Options that change nothing in what a program does here, so that a note is enough.
@@ -34,6 +35,11 @@ IDLE = {"C": "a comment of the code file", "D": "of the debugger", "F": "of the 
         "G": "GOTO is always there", "L": "a listing: --list makes one", "N": "native code",
         "P": "pages of a listing", "Q": "what the compiler shows", "S": "how it is loaded",
         "T": "of the compiler's tables", "U": "the user's programs", "V": "lengths of VAR strings"}
+
+
+# Options of other Pascals. $IFDEF would be $I with the name FDEF.
+CONDITION = re.compile(r"(IFDEF|IFNDEF|IFOPT|IF|ELSE|ELSEIF|ENDIF|IFEND|DEFINE|UNDEF)\b", re.I)
+REALS = "real numbers"
 
 
 class Token(NamedTuple):
@@ -53,28 +59,26 @@ def fold(word: str) -> str:
     return word.upper().replace("_", "")[:8]
 
 
-def read_text(file, place=None) -> str:
-    """The text of a file, a character for each byte, with \n at the end of each line."""
-    try:
-        with open(file, encoding="latin-1", newline="") as stream:
-            text = stream.read()
-    except OSError as fault:
-        what = file if place else "it"
-        raise Fault(f"{what} cannot be read: {fault.strerror}", place or file) from None
-    if text.startswith(BYTE_ORDER_MARK):
-        text = text[len(BYTE_ORDER_MARK):]
-    return text.replace("\r\n", "\n").replace("\r", "\n")
+class Remark(NamedTuple):
+    """What the lexer says of a text: a fault, or a note. `at` is the number of tokens before it."""
+
+    at: int
+    what: Any
+    place: Place
 
 
 class Lexer:
-    """Takes the tokens of a text, and of the files that it includes."""
+    """Takes the tokens of a text, and of the files that it includes. What stands behind the last
+    END. of a program is no part of it, so the remarks wait until it is known where that is."""
 
-    def __init__(self, text, file, faults, depth=0):
-        self.text, self.file, self.faults, self.depth = text, file, faults, depth
-        self.tokens: List[Token] = []
-        self.at, self.line, self.start = 0, 1, 0  # the offset, its line, the offset of the line
-        self.options = {"R": True, "I": True}
-        self.notes: List[str] = []
+    def __init__(self, text, file, around=None, line=1):
+        self.text, self.file = text, file
+        self.depth = around.depth + 1 if around else 0
+        self.tokens: List[Token] = around.tokens if around else []
+        self.remarks: List[Remark] = around.remarks if around else []
+        self.options = around.options if around else {"R": True, "I": True}
+        self.has_condition = False  # whether an option of a condition has been told
+        self.at, self.line, self.start = 0, line, 0  # the offset, its line, the offset of the line
 
     def place(self):
         return Place(self.file, self.line, self.at - self.start + 1, self.options["R"],
@@ -94,17 +98,23 @@ class Lexer:
     def all(self) -> List[Token]:
         while self.at < len(self.text):
             found = TOKEN.match(self.text, self.at)
-            with self.faults.caught():
+            try:
                 if not found:
                     self.refuse_character()
                 elif found.lastgroup == "comment":
                     self.comment(found[0])
                 else:
                     self.take(found.lastgroup, found[0])
+            except Fault as fault:
+                self.remark(fault, fault.place)
             if found and found.lastgroup != "comment":
                 self.move(found.end())
-        self.put(END, END)
+        if not self.depth:
+            self.put(END, END)
         return self.tokens
+
+    def remark(self, what, place):
+        self.remarks.append(Remark(len(self.tokens), what, place))
 
     def refuse_character(self):
         place, character = self.place(), self.text[self.at]
@@ -116,7 +126,9 @@ class Lexer:
         self.move(self.at + 1)
         if character == "'":
             self.move((self.text + "\n").index("\n", self.at))
+            self.put(BAD, "")
             raise Fault("this text has no second quote on its line", place)
+        self.put(BAD, "")
         shown = character if " " < character < "\x7f" else f"number {ord(character)}"
         raise Fault(f"the character {shown} is no part of Pascal", place)
 
@@ -133,8 +145,8 @@ class Lexer:
             self.put("number", written, int(digits))
         elif group == "real":
             self.put("number", written, 0)
-            raise Fault(f"{written[:12]} is a real number, and there are none: take an INTEGER, of "
-                        "hundredths or the like", self.place())
+            raise Lack(f"{written[:12]} is a real number, and there are none: take an INTEGER, of "
+                       "hundredths or the like", self.place(), REALS)
         elif group == "text":
             if len(written) > MOST_TEXT + 2:
                 raise Fault(f"a text has at most {MOST_TEXT} characters", self.place())
@@ -149,12 +161,16 @@ class Lexer:
         body = self.text[begin:end]
         self.move(len(self.text) if end < 0 else end + len(closing))
         if end < 0:
+            self.put(BAD, "")
             raise Fault(f"this comment has no {closing}", place)
         if body.startswith("$"):
             self.options_of(body[1:], place)
 
     def options_of(self, text, place):
         """`R+,I-` sets options; `I NAME` includes a file."""
+        if CONDITION.match(text):
+            self.refuse_condition(text, place)
+            return
         included = re.fullmatch(r"[iI]\s*([^-+\s].*?)\s*", text, re.S)
         if included:
             self.include(included[1], place)
@@ -164,11 +180,18 @@ class Lexer:
             if letter in self.options and sign in ("+", "-"):
                 self.options[letter] = sign == "+"
             elif letter in IDLE:
-                self.notes.append(f"{place}: note: the option {letter} is not there "
-                                  f"({IDLE[letter]}); it is passed over")
+                self.remark(f"the option {letter} is not there ({IDLE[letter]}); it is passed over",
+                            place)
             else:
                 raise Fault(f"there is no option {word.strip()[:12]}: R, I and I NAME are there",
                             place)
+
+    def refuse_condition(self, text, place):
+        """Refuses {$IFDEF NAME} and the like, of which the first is told."""
+        if not self.has_condition:
+            self.has_condition = True
+            raise Fault(f"nothing is compiled by condition, so that {{${text.strip()[:24]}}} is no "
+                        "option: leave it out, with what is not to be compiled", place)
 
     def include(self, name, place):
         if ":" in name or name.startswith("*"):
@@ -176,10 +199,7 @@ class Lexer:
                         "and name it without a volume", place)
         if self.depth == MOST_INCLUDED:
             raise Fault(f"more than {MOST_INCLUDED} files include one another", place)
-        path = os.path.join(os.path.dirname(self.file), name)
-        if "\0" in path:
+        if "\0" in name:
             raise Fault("the name of a file has no character 0", place)
-        inner = Lexer(read_text(path, place), path, self.faults, self.depth + 1)
-        inner.options = self.options
-        self.tokens += inner.all()[:-1]
-        self.notes += inner.notes
+        path = included_path(os.path.join(os.path.dirname(self.file), name), place)
+        Lexer(read_text(path, place), path, self).all()

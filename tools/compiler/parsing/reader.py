@@ -2,8 +2,9 @@
 
 from pcode.faults import Fault
 
+from ..faults import Follows, Lack
 from . import syntax
-from .lexer import END
+from .lexer import BAD, END
 
 # How deeply parentheses, statements and types may be nested. Real programs have some ten.
 MOST_NESTED = 100
@@ -17,6 +18,7 @@ class Reader:
         self.tokens, self.faults = tokens, faults
         self.at = 0
         self.nested = 0
+        self.has_bad = any(token.kind == BAD for token in tokens)  # with which an END may be lost
 
     @property
     def now(self):
@@ -53,7 +55,13 @@ class Reader:
         return self.next()
 
     def refuse(self, text, place=None):
+        if self.kind == BAD or self.kind == END and self.has_bad:
+            raise Follows(text, self.place)
         raise Fault(text, place or self.place)
+
+    def lack(self, text, place, feature=None):
+        """Notes what is not there, and goes on."""
+        self.faults.add(Lack(text, place, feature))
 
     def name(self, why=""):
         token = self.want("name", why)

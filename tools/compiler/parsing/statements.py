@@ -15,7 +15,16 @@ MOST_BRANCHES = 250
 
 class StatementParser(ExpressionParser):
     def compound(self):
-        place = self.want("BEGIN").place
+        return self.statements_and_end(self.want("BEGIN").place)
+
+    def is_statement(self):
+        """Whether what comes is a statement, and can be no declaration."""
+        if self.kind == "name" and self.at + 1 < len(self.tokens):
+            return self.tokens[self.at + 1].kind in (":=", "(", "[", "^", ".")
+        return self.kind in ("IF", "WHILE", "REPEAT", "FOR", "CASE", "WITH", "GOTO")
+
+    def statements_and_end(self, place):
+        """What follows BEGIN."""
         statements = self.statements("END")
         self.want("END", " behind a statement")
         return syntax.Compound(place, statements)

@@ -3,36 +3,32 @@
 Each node has the place where it begins, or that of the sign that it is about.
 """
 
-from dataclasses import dataclass
 from typing import Any, List, Optional, Tuple
+
+from pcode.fields import Fields
 
 from ..faults import Place
 
 
-@dataclass
-class Node:
+class Node(Fields):
     place: Place
 
 
 # Expressions
 
-@dataclass
 class Number(Node):
     value: int
 
 
-@dataclass
 class Text(Node):
     value: str
 
 
-@dataclass
 class Name(Node):
     name: str  # the part that counts
     written: str
 
 
-@dataclass
 class Index(Node):
     """BASE[INDEX]: A[I, J] is an index of an index."""
 
@@ -40,18 +36,15 @@ class Index(Node):
     index: Node
 
 
-@dataclass
 class Field(Node):
     base: Node
     name: Name
 
 
-@dataclass
 class Dereference(Node):
     base: Node
 
 
-@dataclass
 class Argument(Node):
     """VALUE or, in WRITE, VALUE:WIDTH."""
 
@@ -59,7 +52,6 @@ class Argument(Node):
     width: Optional[Node] = None
 
 
-@dataclass
 class Call(Node):
     """NAME(ARGUMENTS). A call without them is a Name."""
 
@@ -67,22 +59,19 @@ class Call(Node):
     arguments: List[Argument]
 
 
-@dataclass
 class Operation(Node):
     operator: str
     left: Node
     right: Node
 
 
-@dataclass
 class Unary(Node):
-    """A sign, or NOT."""
+    """A sign, or NOT; in SCAN = or <>, too."""
 
     operator: str
     operand: Node
 
 
-@dataclass
 class SetOf(Node):
     """[PARTS]: each a value, or two for all from the one to the other."""
 
@@ -91,42 +80,35 @@ class SetOf(Node):
 
 # Statements. An empty one is None.
 
-@dataclass
 class Compound(Node):
     statements: List[Node]
 
 
-@dataclass
 class Assign(Node):
     target: Node
     value: Node
 
 
-@dataclass
 class CallStatement(Node):
     call: Node  # a Call or a Name
 
 
-@dataclass
 class If(Node):
     test: Node
     yes: Optional[Node]
     no: Optional[Node]
 
 
-@dataclass
 class While(Node):
     test: Node
     body: Optional[Node]
 
 
-@dataclass
 class Repeat(Node):
     statements: List[Node]
     test: Node
 
 
-@dataclass
 class For(Node):
     variable: Name
     start: Node
@@ -135,24 +117,20 @@ class For(Node):
     body: Optional[Node]
 
 
-@dataclass
 class Case(Node):
     selector: Node
     branches: List[Tuple[List[Node], Optional[Node]]]
 
 
-@dataclass
 class With(Node):
     records: List[Node]
     body: Optional[Node]
 
 
-@dataclass
 class Goto(Node):
     label: int
 
 
-@dataclass
 class Labelled(Node):
     label: int
     statement: Optional[Node]
@@ -160,36 +138,30 @@ class Labelled(Node):
 
 # Types
 
-@dataclass
 class StringType(Node):
     length: Node
 
 
-@dataclass
 class Enumeration(Node):
     names: List[Name]
 
 
-@dataclass
 class Subrange(Node):
     low: Node
     high: Node
 
 
-@dataclass
 class ArrayType(Node):
     is_packed: bool
     index: Any
     element: Any
 
 
-@dataclass
 class FieldGroup(Node):
     names: List[Name]
     type: Any
 
 
-@dataclass
 class Variants(Node):
     """CASE TAG: TYPE OF LABELS: (FIELDS); .."""
 
@@ -198,66 +170,61 @@ class Variants(Node):
     branches: List[Tuple[List[Node], "FieldList"]]
 
 
-@dataclass
 class FieldList(Node):
     groups: List[FieldGroup]
     variants: Optional[Variants]
 
 
-@dataclass
 class RecordType(Node):
     is_packed: bool
     fields: FieldList
 
 
-@dataclass
 class SetType(Node):
     base: Node
 
 
-@dataclass
 class PointerType(Node):
     target: Name
 
 
+class AbsentType(Node):
+    """A type that has a fault, or is not there, which has been told."""
+
+    feature: Optional[str]
+
+
 # Declarations
 
-@dataclass
 class LabelDeclaration(Node):
     label: int
 
 
-@dataclass
 class ConstDeclaration(Node):
     name: Name
     value: Node
 
 
-@dataclass
 class TypeDeclaration(Node):
     name: Name
     type: Node
 
 
-@dataclass
 class TypesEnd(Node):
     """The end of a TYPE or VAR part, where the names behind each ^ have to be known."""
 
 
-@dataclass
 class VarDeclaration(Node):
     names: List[Name]
     type: Node
 
 
-@dataclass
 class ParameterGroup(Node):
     is_var: bool
     names: List[Name]
     type: Node
 
 
-@dataclass
 class RoutineDeclaration(Node):
     """A procedure or a function; `block` is None where it is FORWARD."""
 
@@ -268,13 +235,12 @@ class RoutineDeclaration(Node):
     block: Optional["Block"]
 
 
-@dataclass
 class Block(Node):
     declarations: List[Node]
     body: Compound
 
 
-@dataclass
 class Program(Node):
     name: Name
+    units: List[Name]  # that are used, and not there
     block: Block

@@ -3,6 +3,9 @@
 from . import syntax
 from .statements import StatementParser
 
+FILES = "there are no files: keep the data in an array, or read it from the console"
+LONG = "long integers"
+
 
 class TypeParser(StatementParser):
     def type(self):
@@ -20,9 +23,11 @@ class TypeParser(StatementParser):
         if self.take("SET"):  # PACKED changes nothing there
             self.want("OF")
             return syntax.SetType(place, self.simple_type())
-        if self.kind == "FILE":
-            self.refuse("there are no files: keep the data in an array, or read it from the "
-                        "console")
+        if self.take("FILE"):
+            self.lack(FILES, place)
+            if self.take("OF"):
+                self.type()
+            return syntax.AbsentType(place, FILES)
         if is_packed:
             self.refuse(f"ARRAY, RECORD or SET is wanted behind PACKED, and not {self.now}")
         if self.take("^"):
@@ -62,13 +67,15 @@ class TypeParser(StatementParser):
     def sized(self, name):
         """NAME[N]."""
         if name.name == "INTEGER":
-            self.refuse("there are no long integers: INTEGER has 16 bits. Take two of them, or "
-                        "the digits as characters")
-        if name.name != "STRING":
+            self.lack("there are no long integers: INTEGER has 16 bits. Take two of them, or the "
+                      "digits as characters", self.place, LONG)
+        elif name.name != "STRING":
             self.refuse(f"{name.written} has no length: STRING has one")
         self.next()
         length = self.constant()
         self.want("]")
+        if name.name == "INTEGER":
+            return syntax.AbsentType(name.place, LONG)
         return syntax.StringType(name.place, length)
 
     def field_list(self):

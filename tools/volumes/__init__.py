@@ -1,0 +1,1 @@
+"""The volumes of a p-System, and what their files look like."""
