@@ -4,10 +4,11 @@ where its node has ended by D2."""
 import os
 import subprocess
 
+from shared.locks import holder_of, path_of
 from shared.supervising.unsaved import why_unsaved
 
 from ..checks import expect, passed
-from ..files import file_with
+from ..files import bytes_of, file_with
 from ..group import await_that
 from ..program import SCRIPTS, Broken
 from ..supervised import group_of
@@ -65,12 +66,31 @@ def check_reasons(folder):
     expect("a folder that is missing", said == f"{wanted}: is its disk mounted?", said)
     if os.geteuid() == 0:
         os.chmod(folder, 0o755)
-        said, wanted = answer_as(OTHER, record), f"this user may not write {second}"
+        os.remove(path_of(record))
+        said, wanted = answer_as(OTHER, record), f"this user may not write {path_of(record)}"
         expect("a folder of another user", said == wanted, said)
+        file_with(folder, "record1.lock", b"")
+        os.chmod(path_of(record), 0o666)
+        said, wanted = answer_as(OTHER, record), f"this user may not write {second}"
+        expect("a folder of another user, where there is a lock", said == wanted, said)
         file_with(folder, "record1", b"PL")
         os.chmod(record, 0o600)
         said, wanted = answer_as(OTHER, record), f"this user may not read and write {record}"
         expect("a record of another user", said == wanted, said)
+
+
+def check_in_use(folder):
+    """Where another process is at the record, it is named, and nothing is written beside it."""
+    record = file_with(folder, "record1", b"PL")
+    second = file_with(folder, "record1.new", b"that of the other process")
+    command = ["flock", path_of(record), "cat"]
+    with subprocess.Popen(command, stdin=subprocess.PIPE) as other:
+        await_that(lambda: holder_of(record) is not None, "the other process has the lock")
+        said = why_unsaved(record)
+        wanted = f"process {other.pid} ({' '.join(command)}) runs at the record {record} already"
+        other.stdin.close()
+    expect("another process at the record", said == wanted, said)
+    expect("its second file stays", bytes_of(second) == b"that of the other process")
 
 
 def of_small_disk(small, what):

@@ -11,8 +11,8 @@ from shared.nodes import command_of, free_addresses
 from shared.record import LOG_HEADER, PROMISE, START, VOTE, Damaged, record_of
 
 from ..files import bytes_of
-from ..group import SESSION
 from ..program import PROGRAM, Broken
+from ..scripts import session_of
 
 # From some time on so many bytes of the record must not be lost, and why: "synced", or "answered"
 # since the node sent or showed something.
@@ -102,7 +102,7 @@ class Restarts:
 
     def __init__(self, room, file):
         self.copy, self.file = os.path.join(room, "copy"), file
-        self.known = {}
+        self.session, self.known = session_of(file), {}
 
     def restart(self, data, node):
         """Starts a node on a record with these bytes, for no turn: it loads the record, and saves
@@ -110,9 +110,9 @@ class Restarts:
         if data not in self.known:
             with open(self.copy, "wb") as file:
                 file.write(data)
-            addresses = free_addresses(len(node.addresses))
+            addresses = free_addresses(len(node.nodes))
             words = command_of(
-                PROGRAM, self.file, node.number, SESSION, self.copy, addresses, turns=0
+                PROGRAM, self.file, node.number, self.session, self.copy, addresses, turns=0
             )
             done = subprocess.run(
                 words, check=False, stdin=subprocess.DEVNULL, capture_output=True, text=True,

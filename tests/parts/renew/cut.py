@@ -13,9 +13,9 @@ from ..scripts import path_of
 
 
 class Cut:
-    """The calls that are counted: those that make, write, sync, link or rename a file. A write
-    counts twice, as it is cut in the middle and then goes on. After the last that is left this
-    process is killed."""
+    """The calls that are counted: those that make, write, sync, link, rename or remove a file. A
+    write counts twice, as it is cut in the middle and then goes on. After the last that is left
+    this process is killed."""
 
     def __init__(self, left):
         self.left = left
@@ -42,7 +42,7 @@ class Cut:
         return done
 
     def begin(self):
-        for name in ("link", "rename", "fsync"):
+        for name in ("link", "rename", "unlink", "fchmod", "fchown", "fsync"):
             setattr(os, name, self.counted(getattr(os, name)))
         os.open = self.counted(os.open, lambda words: words[1] & os.O_CREAT)
         os.write = self.write

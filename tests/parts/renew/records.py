@@ -59,9 +59,12 @@ def by_file(*words):
 
 
 def files_of(folder):
-    """The files of a folder and their bytes, by their names."""
+    """The files of a folder and their bytes, by their names; but for those of locks, which are
+    empty, and stay where they were made."""
     found = {}
     for name in sorted(os.listdir(folder)):
+        if name.endswith(".lock"):
+            continue
         with open(os.path.join(folder, name), "rb") as file:
             found[name] = file.read()
     return found

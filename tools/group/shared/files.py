@@ -45,20 +45,6 @@ def refuse_lasting(fault):
         raise Refused(text_of_fault(fault))
 
 
-def open_console(path):
-    """Opens the file that gets the output, at its end. A pipe that nobody reads is no fault that
-    stays."""
-    flags = os.O_WRONLY | os.O_APPEND | os.O_CREAT | os.O_NOCTTY | os.O_NONBLOCK | os.O_CLOEXEC
-    try:
-        console = os.open(path, flags, 0o666)
-    except OSError as fault:
-        if fault.errno == errno.ENXIO:
-            raise BlockingIOError(errno.EAGAIN, "nobody reads this console", path)
-        raise
-    os.set_blocking(console, True)
-    return console
-
-
 def check_folder(path, what):
     folder = os.path.dirname(os.path.abspath(path))
     if not os.path.isdir(folder):

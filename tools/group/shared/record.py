@@ -172,10 +172,10 @@ def is_torn(end, at, version):
     return version == 2 and len(end) <= MOST_APPENDED and is_lost
 
 
-def with_entries(reader, record, offset, note_start=lambda record: None):
+def with_entries(reader, record, offset, note=lambda record, tag, ballot: None):
     """The record with the changes of all whole entries. What a crash may have left of an append is
-    left. The reader's bytes begin at this offset of the log. `note_start` is given the record
-    before each start."""
+    left. The reader's bytes begin at this offset of the log. `note` is given the record before each
+    entry, and the entry's tag and ballot."""
     while not is_cut_at(reader.data, reader.at, record.version):
         at = reader.at
         try:
@@ -185,8 +185,7 @@ def with_entries(reader, record, offset, note_start=lambda record: None):
             if is_torn(reader.data[at:], offset + at, record.version):
                 return record
             raise
-        if entry[0] == START:
-            note_start(record)
+        note(record, entry[0], entry[2])
         record = with_entry(record, *entry)
     return record
 
@@ -213,12 +212,12 @@ def read_record(path):
 class Head:
     """The record of a file without its votes, again and again: of a log each time only what was
     appended is read, and of a whole record never its votes. So it takes no longer where there are
-    many."""
+    many. `under` counts the votes of a log under the ballot that it has promised."""
 
     def __init__(self, path):
         self.path = path
         self.inode = None  # of the log that was read, up to `at`, and has this record up to there
-        self.at, self.record = 0, None
+        self.at, self.record, self.under = 0, None, 0
 
     def read(self):
         with open(self.path, "rb") as file:
@@ -229,6 +228,7 @@ class Head:
             file.seek(0)
             letters, record = owner_of(Reader(file.read(LOG_HEADER)))
             file.seek(LOG_HEADER)
+            self.under = 0
             if letters == b"PR":
                 self.inode = None
                 return self.whole(file, record)
@@ -239,14 +239,17 @@ class Head:
         """A whole record, of which what comes before this place of the file was read."""
         return head_of(Reader(file.read(HEADER - LOG_HEADER)), record)
 
-    def note_start(self, record):
-        """The log has a start of the node over this record."""
+    def note(self, record, tag, ballot):
+        """The log has an entry of this tag and ballot over this record."""
+        if tag != START and (record.promised is None or record.promised < ballot):
+            self.under = 0
+        self.under += tag == VOTE
 
     def follow(self, data):
         """The record with what follows it in its log."""
         reader = Reader(data)
         try:
-            self.record = with_entries(reader, self.record, self.at, self.note_start)
+            self.record = with_entries(reader, self.record, self.at, self.note)
         except Damaged:
             self.inode = None
             raise

@@ -4,6 +4,7 @@ import curses
 import time
 
 from .ends import with_end
+from .seen import text_of_old
 from .watch import Group, line_of
 
 # How often the group is looked at, in milliseconds.
@@ -20,6 +21,8 @@ def lines_of_log(node):
 def lines_of_node(node, leader, room):
     """The lines of a node, with so many of its console and its log."""
     said, shown = lines_of_log(node), node.end_of_console()
+    if node.later:
+        said.append(f"    ({text_of_old(node.later)})")
     if shown is None:
         shown = ["    (its console is in no file that is known here; say --consoles)"]
     else:

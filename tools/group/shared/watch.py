@@ -7,7 +7,10 @@ import stat
 from .codes import with_sentence
 from .ends import Log
 from .nodes import stat_of
-from .record import PLACES, Damaged, Head, places_of, read_record, record_of, text_of_ballot
+from .record import (
+    PLACES, START, Damaged, Head, places_of, read_record, record_of, text_of_ballot,
+)
+from .seen import Seen, point_of, point_of_head
 from .words import text_of_address
 
 # How many bytes of a console's end are read.
@@ -29,11 +32,17 @@ class Whole(Head):
         self.before = None
         return record_of(file.read())
 
-    def note_start(self, record):
-        self.before = record.promised
+    def note(self, record, tag, ballot):
+        super().note(record, tag, ballot)
+        if tag == START:
+            self.before = record.promised
 
     def kept(self, record):
         return record
+
+    def point(self, record):
+        """How far the record has come, which was read here last."""
+        return point_of(record) if self.inode is None else point_of_head(self, record)
 
 
 def words_of_process(pid):
@@ -136,11 +145,14 @@ class Watched:
         self.head = Whole(path)
         self.record, self.fault, self.pid, self.state = None, None, None, None
         self.end, self.log_fault = None, None
+        # By which run it was seen that the record is older than it was, or None.
+        self.later = None
 
-    def look(self, processes):
-        self.record, self.fault = None, None
+    def look(self, processes, seen):
+        self.record, self.fault, self.later = None, None, None
         try:
             self.record = self.head.read()
+            self.later = seen.run_after(self.record, self.head.point(self.record))
         except Damaged as fault:
             self.fault = f"damaged: {fault}"
         except OSError as fault:
@@ -207,9 +219,9 @@ class Group:
         self.nodes = [Watched(*it) for it in zip(records, consoles or none, logs or none)]
 
     def look(self):
-        processes = node_processes()
+        processes, seen = node_processes(), Seen([it.path for it in self.nodes])
         for it in self.nodes:
-            it.look(processes)
+            it.look(processes, seen)
 
     def size(self):
         return max((it.record.size for it in self.nodes if it.record), default=len(self.nodes))

@@ -49,12 +49,13 @@ def ask(address, seconds=0.001):
 
 
 def put_out(text, path=None):
-    """Writes a text into a file, or to standard output, all of it now. A fault has its name, also
-    where it is full. Then standard output gets nothing more: Python would try again at the end."""
+    """Writes a text into a file, or to standard output, all of it now. A file may be given pieces
+    of text. A fault has its name, also where it is full. Then standard output gets nothing more:
+    Python would try again at the end."""
     try:
         if path:
             with open(path, "w", encoding="utf-8") as file:
-                file.write(text)
+                file.writelines([text] if isinstance(text, str) else text)
         else:
             print(text, end="", flush=True)
     except OSError as fault:

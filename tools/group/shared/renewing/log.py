@@ -1,19 +1,10 @@
 """Writes a node's log as the store of the program does, byte for byte (docs/FORMATS.md)."""
 
 from ..record import MOST_KEYS, PROMISE, SECTOR, START, VOTE, Ballot, Batch
-from ..replica.datagram import number
+from ..replica.datagram import ballot_bytes, number, value_bytes
 
 # The ballot under which a renewed session has voted, and the start of node 1 that has its keys.
 FIRST = Ballot(1, 1)
-
-
-def ballot_bytes(ballot):
-    return number(ballot.round, 4) + number(ballot.node, 1)
-
-
-def value_bytes(batch):
-    head = number(1, 1) + number(batch.node, 1) + number(batch.start, 4) + number(batch.first, 4)
-    return head + number(len(batch.characters), 1) + batch.characters
 
 
 def vote_bytes(place, ballot, batch):

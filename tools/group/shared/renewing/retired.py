@@ -1,5 +1,5 @@
-"""The files of `renew`: records that are retired, and records that are written. What was begun and
-interrupted is found again, and goes on."""
+"""The files of `renew`: records that are retired, and files that are put in their places as a
+whole. What was begun and interrupted is found again, and goes on."""
 
 import errno
 import os
@@ -48,13 +48,12 @@ def make_like(file, path):
             raise
 
 
-def put(path, data, like):
-    """Puts a file with these bytes in its place as a whole: by a second file, a sync, a rename, and
-    a sync of the folder. It gets the owner and the rights of the file `like`."""
-    second = f"{path}.new"
-    if os.path.lexists(second):
-        os.unlink(second)  # A call that was interrupted has left it.
-    file = os.open(second, os.O_WRONLY | os.O_CREAT | os.O_EXCL | os.O_CLOEXEC, 0o600)
+def write_anew(path, data, like):
+    """Writes a file with these bytes, and syncs it. It gets the owner and the rights of the file
+    `like`. What a call that was interrupted has left there goes."""
+    if os.path.lexists(path):
+        os.unlink(path)
+    file = os.open(path, os.O_WRONLY | os.O_CREAT | os.O_EXCL | os.O_CLOEXEC, 0o600)
     try:
         make_like(file, like)
         rest = memoryview(data)
@@ -63,10 +62,17 @@ def put(path, data, like):
         os.fsync(file)
     except OSError as fault:
         # A write or a sync that fails has no name of its own.
-        fault.filename = fault.filename or second
+        fault.filename = fault.filename or path
         raise
     finally:
         os.close(file)
+
+
+def put(path, data, like):
+    """Puts a file with these bytes in its place as a whole: by a second file, a sync, a rename, and
+    a sync of the folder."""
+    second = f"{path}.new"
+    write_anew(second, data, like)
     os.rename(second, path)
     sync_folder(path)
 
@@ -148,31 +154,6 @@ class Source:
         sync_folder(self.place)
         put(self.place, stone_of(self.session, self.place), self.retired)
         self.is_retired = True
-
-
-class Target:
-    """A record of the new session: where it is to be, and whether it is there."""
-
-    def __init__(self, path, data, like):
-        self.path, self.data, self.like = path, data, like
-
-    def is_there(self, old, new):
-        """Whether it is there, as it was written, or as its node has gone on with it. Refuses what
-        is there instead, but for what stands in the place of a record of the old session."""
-        if os.path.exists(retired_name(self.path, new)):
-            raise Refused(f"session {new} was retired too: {retired_name(self.path, new)} is there")
-        there = bytes_at(self.path)
-        if there is None or there == stone_of(old, self.path):
-            return False
-        if not there.startswith(self.data):
-            raise Refused(
-                f"{self.path} is there already, and has other bytes than the new record; a call "
-                "that was interrupted goes on with the records that it was given"
-            )
-        return True
-
-    def write(self):
-        put(self.path, self.data, self.like)
 
 
 def text_with_help(fault):

@@ -1,5 +1,6 @@
 """Heartbeats of supervisors: their text, and the socket where they come and go."""
 
+import collections
 import errno
 import re
 import select
@@ -8,9 +9,15 @@ import time
 
 from ..files import Refused
 from ..record import Ballot
+from ..seen import said_in, text_of_said, took_of
 from ..words import text_of_address
+from .key import is_signed, signed
 from .office import Beat
 
+# The most bytes of a datagram that is read.
+MOST = 4096
+# After so many datagrams of a node of which none is signed, that is said.
+MANY = 10
 # pgroup beat SESSION NODE ROUND NODE AGE LED HEARS: a ballot of round 0 is none, LED is 0 or 1, and
 # HEARS has a digit for each node.
 BEAT = re.compile(
@@ -37,10 +44,21 @@ def beat_of(data):
 
 
 class Beats:
-    """The socket of the supervisor of node `me`, at the address of its place in the list."""
+    """The socket of the supervisor of node `me`, at the address of its place in the list.
 
-    def __init__(self, session, me, addresses):
-        self.session, self.me, self.addresses = session, me, addresses
+    A heartbeat is one line. What else is told follows in a datagram of its own, `pgroup seen`,
+    which supervisors of earlier versions pass over. With a key the heartbeat stands in that
+    datagram too, which is signed, and what comes unsigned or once more counts for nothing."""
+
+    def __init__(self, session, me, addresses, key=None):
+        self.session, self.me, self.addresses, self.key = session, me, addresses, key
+        self.nodes = {it: node for node, it in enumerate(addresses, 1) if node != me}
+        # The counter of the last datagram that was sent, and of the last that was taken of each
+        # node. Whether one came whose counter is too small: its sender has to learn of that.
+        self.counter, self.took, self.is_behind = 0, {}, False
+        # Of each node, how many datagrams came since the last that was signed; and of which ones
+        # that was said.
+        self.unsigned, self.strangers = collections.Counter(), set()
         self.socket = socket.socket(socket.AF_INET, socket.SOCK_DGRAM)
         self.socket.setblocking(False)
 
@@ -56,29 +74,88 @@ class Beats:
             return f"{where}: {text_of_address_fault(fault)}"
         return None
 
-    def send(self, beat):
-        data = text_of_beat(beat)
-        for node, address in enumerate(self.addresses, 1):
-            if node != self.me:
+    def remember(self, counter, took):
+        """Takes the counters that were kept."""
+        self.counter, self.took = counter, took
+
+    def took_lines(self):
+        return [f"took {node} {counter}" for node, counter in sorted(self.took.items())]
+
+    def send(self, beat, lines=()):
+        """Sends the heartbeat, and these lines, if there are any."""
+        line = text_of_beat(beat)
+        datagrams = [line]
+        if lines or self.key:
+            datagrams.append(self.said(line, lines))
+        for address in self.nodes:
+            for data in datagrams:
                 try:
                     self.socket.sendto(data, address)
                 except OSError:
-                    pass  # A heartbeat that is not sent is one that is lost.
+                    pass  # What is not sent is lost.
+
+    def said(self, line, lines):
+        """The datagram with these lines, after the heartbeat if there is a key."""
+        # It only grows, over restarts too, whatever the clock does: see `note_took`.
+        self.counter = max(self.counter + 1, time.time_ns())
+        first = [line.decode("ascii")] if self.key else []
+        text = text_of_said(self.session, self.me, self.counter, [*first, *lines])
+        data = text.encode("ascii")
+        return signed(data, self.key) if self.key else data
 
     def hear_until(self, end):
-        """Yields the heartbeats of the other supervisors of the session that come until then."""
+        """Yields what the other supervisors of the session send until then: the node of each, and
+        the heartbeat and what else is said, or None."""
         while True:
             left = end - time.monotonic()
             if left <= 0 or not select.select([self.socket], [], [], left)[0]:
                 return
             try:
-                data, source = self.socket.recvfrom(256)
+                data, source = self.socket.recvfrom(MOST)
             except OSError:
                 continue
-            beat = beat_of(data)
-            if beat and beat.session == self.session and source in self.addresses:
-                if self.addresses.index(source) + 1 == beat.node != self.me:
-                    yield beat
+            node = self.nodes.get(source)
+            if node:
+                beat, said = self.checked(data, node) if self.key else self.plain(data, node)
+                if beat or said:
+                    yield node, beat, said
+
+    def mine(self, it, node):
+        """A heartbeat or what else was said, if it is of this session and node."""
+        return it if it and (it.session, it.node) == (self.session, node) else None
+
+    def plain(self, data, node):
+        beat = self.mine(beat_of(data), node)
+        return beat, None if beat else self.mine(said_in(data), node)
+
+    def checked(self, data, node):
+        """With a key. What comes once more counts for nothing, but for runs: that a record was so
+        far stays true."""
+        said = self.mine(said_in(data), node)
+        if said is None or not is_signed(data, self.key):
+            self.unsigned[node] += 1
+            return None, None
+        self.unsigned[node] = 0
+        self.strangers.discard(node)
+        self.note_took(took_of(said.lines))
+        if said.counter <= self.took.get(node, 0):
+            self.is_behind = True
+            return None, said._replace(lines=[it for it in said.lines if it.startswith(b"run ")])
+        self.took[node] = said.counter
+        return self.mine(beat_of(said.lines[0]), node), said
+
+    def new_strangers(self):
+        """The nodes whose supervisors sign nothing, each once until it signs again."""
+        if not self.unsigned:
+            return []
+        found = {node for node, count in self.unsigned.items() if count >= MANY} - self.strangers
+        self.strangers |= found
+        return sorted(found)
+
+    def note_took(self, took):
+        """What another has taken of this node. After a snapshot was put back and with a clock that
+        is wrong, the counter is too small, and goes on behind that."""
+        self.counter = max(self.counter, took.get(self.me, 0))
 
 
 def text_of_address_fault(fault):

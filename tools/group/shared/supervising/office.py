@@ -6,7 +6,8 @@ ballot that the node's record has promised, how long ago the node led, whether i
 and which supervisors it hears. What is older than `silent` seconds does not count.
 
 A node leads where a majority of the records, its own included, has promised a ballot that it made
-in its present run, and where it and their supervisors hear each other. So a leader that nobody
+in its present run, where it and their supervisors hear each other, and where no node that it hears
+has promised a greater ballot: that one would refuse it. So a leader that nobody
 hears, that hears nobody, or that keeps too few of its links, ceases to lead `silent` seconds
 later. One that keeps a majority is disturbed by no node that does not hear it: a node is asked only
 where a majority, itself included, hears no leader. But keys that are typed where the leader is not
@@ -56,7 +57,7 @@ class Office:
             ]
             # When it had a majority last: as long ago as the last that is needed was heard.
             times = sorted([moved, *backers], reverse=True)
-            if self.is_majority(len(times)):
+            if self.is_majority(len(times)) and not self.is_refused(promised, now):
                 self.led = max(self.led, min(moved, times[self.size // 2]))
         # So that a leader that is no longer heard learns of it soon.
         hears = frozenset(self.fresh(now, self.silent / 3)) | {self.me}
@@ -65,6 +66,14 @@ class Office:
             self.alone = now
         if not self.is_better(now):
             self.content = now
+
+    def is_refused(self, ballot, now):
+        """Whether a node that is heard both ways has promised a greater ballot than this one of
+        node `me`. It refuses the ballot, and by one refusal node `me` ceases to lead."""
+        return any(
+            it.promised is not None and it.promised > ballot and self.me in it.hears
+            for node, it in self.fresh(now).items() if node != self.me
+        )
 
     def note_ballot(self, promised, now):
         """A ballot above all before is a campaign."""

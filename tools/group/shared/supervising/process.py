@@ -1,6 +1,7 @@
 """The process of a node under a supervisor: when it is started, whether it moves, and how it ends
 with its supervisor."""
 
+import contextlib
 import ctypes
 import os
 import select
@@ -11,13 +12,14 @@ import time
 
 from ..codes import sentence_of, with_sentence
 from ..ends import end_of
-from ..files import (
-    Refused, check_session, open_console, promised_of, refuse_lasting, say, text_of_fault,
-)
+from ..files import Refused, check_session, promised_of, refuse_lasting, say, text_of_fault
+from ..locks import InUse, held
 from ..nodes import command_of, stat_of
 from ..words import text_of_address
 from .beats import text_of_address_fault
+from .consoles import Console
 from .speech import Speech, is_log_asked
+from .traces import limit_trace
 from .unsaved import why_unsaved
 
 PR_SET_PDEATHSIG = 1
@@ -52,7 +54,7 @@ class Node:
         self.words = words
         self.is_new = words.new
         self.process, self.before, self.text = None, None, None
-        self.console, self.activity, self.speech = None, None, None
+        self.console, self.activity, self.speech = Console(words.console), None, None
         self.is_held = False
         self.started = self.moved = 0
         self.pause, self.due = PAUSE, time.monotonic()
@@ -88,6 +90,8 @@ class Node:
             # While the ports are taken, a node that was there before may still write.
             if self.are_ports_free():
                 self.start_process(now)
+        except InUse as why:
+            self.tell(f"cannot be started: {why}; it is tried again")
         except (OSError, subprocess.SubprocessError) as fault:
             if isinstance(fault, OSError):
                 refuse_lasting(fault)
@@ -95,15 +99,15 @@ class Node:
             self.tell(f"cannot be started: {fault}; it is tried again")
 
     def start_process(self, now):
+        limit_trace(self.words)
         check_session(self.words)
         self.before = promised_of(self.words, self.is_new)
         parent = os.getpid()
-        self.close_console()
-        self.console = open_console(self.words.console)
-        command = self.command(os.fstat(self.console).st_size)
+        self.open_console()
+        command = self.command(self.console.length())
         speech = Speech(is_log_asked(), self.note)
         self.process = speech.leave_to(lambda begin: subprocess.Popen(
-            command, stdin=subprocess.DEVNULL, stdout=self.console, stderr=begin,
+            command, stdin=subprocess.DEVNULL, stdout=self.console.file, stderr=begin,
             env={**os.environ, "PGROUP_LOG": "1"}, preexec_fn=lambda: end_with(parent),
         ))
         self.speech = speech
@@ -111,8 +115,26 @@ class Node:
         self.is_held = False
         self.tell(f"started, process {self.process.pid}")
 
+    def open_console(self):
+        """Opens the console while no other process is at the record, so that none writes to it.
+        Where the lock cannot be had at all, the node will refuse to run, and why is said then."""
+        with contextlib.ExitStack() as lock:
+            with contextlib.suppress(OSError):
+                lock.enter_context(held(self.words.record))
+            cut = self.console.open()
+        if cut:
+            say(self.words, cut)
+
+    def tend_console(self, now):
+        self.console.tend(now)
+        fault, self.console.fault = self.console.fault, None
+        if fault:
+            more = "after a cut of the power more of it is written again"
+            self.tell(f"cannot sync its console: {text_of_fault(fault)}; {more}")
+
     def tend(self, now):
         """Starts the node if it is due, and notes that it has ended, or how it does."""
+        self.tend_console(now)
         if self.process is None:
             if now >= self.due:
                 self.start(now)
@@ -172,7 +194,7 @@ class Node:
             state = ""
         if state in ("T", "t"):
             return "it was stopped by a signal"
-        if not select.select([], [self.console], [], 0)[1]:
+        if not select.select([], [self.console.file], [], 0)[1]:
             return f"nobody reads its console {self.words.console}, which is full"
         if state == "D":
             return "it waits for a disk"
@@ -191,11 +213,7 @@ class Node:
             self.process.wait()
             self.process = None
             self.speech.close()
-
-    def close_console(self):
-        if self.console is not None:
-            os.close(self.console)
-            self.console = None
+        self.console.finish()
 
 
 def status_text(status):

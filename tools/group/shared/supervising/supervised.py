@@ -5,9 +5,13 @@ import shlex
 import sys
 
 from ..words import address_of
+from .traces import limit_of
 
 SHARED = os.path.dirname(os.path.dirname(os.path.realpath(__file__)))
 TOP = os.path.join(SHARED, "..", "..", "..")
+
+
+RUN_ON_OLD = "--run-on-an-old-record-though-consoles-may-contradict"
 
 
 def add_words(add):
@@ -22,14 +26,21 @@ def add_words(add):
         help="the session is no checksum of FILE; nothing checks that all nodes have the same FILE")
     add("--record", metavar="FILE", required=True, help="the node's record")
     add("--console", metavar="FILE", required=True, help="gets the output; made if not there")
+    add("--trace-limit", metavar="BYTES", type=limit_of,
+        help="at each start the trace that PGROUP_TRACE names is put aside, and the oldest goes")
     add("--nodes", metavar="ADDR", type=address_of, nargs="+", required=True,
         help="the address of each node, in order")
     add("--keys", metavar="ADDR", type=address_of, required=True, help="where the keys come")
     add("--beats", metavar="ADDR", type=address_of, nargs="+", required=True,
         help="where each supervisor hears heartbeats, in order of the nodes")
+    add("--beats-key", metavar="FILE", help="a key that all supervisors share: what is not signed "
+        "with it counts for nothing")
+    add("--new-beats-key", action="store_true", help="make the file of --beats-key")
     add("--silent", metavar="SECONDS", type=float, default=3.0,
         help="how long no leader is heard before a node is asked (3)")
     add("--new", action="store_true", help="the node is new: there is no record yet")
+    add(RUN_ON_OLD, action="store_true", dest="run_on_old", help="start the node on a record that "
+        "is older than what was seen of it; to be typed each time, and not in a file of words")
     add("--program", metavar="FILE", default=program, type=os.path.abspath,
         help="pgroup; if not said, $PGROUP, or that of this repository or package")
 
@@ -45,6 +56,10 @@ def check_words(parser, words):
         parser.error("an address is given twice")
     if "0.0.0.0" in [it[0] for it in words.nodes + words.beats]:
         parser.error("0.0.0.0 is nowhere that a datagram comes from")
+    if words.new_beats_key and not words.beats_key:
+        parser.error("--new-beats-key wants --beats-key")
+    if words.run_on_old and RUN_ON_OLD not in sys.argv[1:]:
+        parser.error(f"{RUN_ON_OLD} has to be typed, and not to stand in a file")
     # A node that rests moves every 200 milliseconds.
     if not 0.3 <= words.silent <= 3600:
         parser.error("--silent is 0.3 to 3600 seconds")

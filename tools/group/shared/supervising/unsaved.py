@@ -5,6 +5,8 @@ import errno
 import os
 import stat
 
+from ..locks import InUse, held, path_of
+
 # What is written to try it.
 TRIED = bytes(4096)
 
@@ -83,10 +85,18 @@ def why_small(path):
 
 def why_unsaved(record):
     """What keeps a record from being loaded or saved, or None where nothing is found. The record's
-    second file is written: the node does not run, and its next save writes that file anew."""
+    second file is written, while no other process may be at the record: the node does not run, and
+    its next save writes that file anew."""
     path = os.path.realpath(record)
-    second = path + ".new"
+    second, lock = path + ".new", path_of(path)
     why = what_has_place(path) or what_has_place(second, ", which a save writes first,")
+    why = why or what_has_place(lock, ", which a node locks first,")
     if why is None and os.path.exists(path) and not os.access(path, os.R_OK | os.W_OK):
         why = f"this user may not read and write {path}"
-    return why or why_unwritten(second) or why_small(path)
+    try:
+        with held(path):
+            return why or why_unwritten(second) or why_small(path)
+    except InUse as in_use:
+        return str(in_use)
+    except OSError as fault:
+        return why or text_of_unwritten(fault, lock)

@@ -1,0 +1,1 @@
+"""What tests/old_records alone uses."""

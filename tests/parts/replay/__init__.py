@@ -1,0 +1,1 @@
+"""What tests/replay alone uses."""

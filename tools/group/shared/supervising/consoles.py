@@ -1,0 +1,192 @@
+"""The console of a supervised node: the file that gets its output, and how much of it is known to
+be on the disk.
+
+Where the power is cut, a file may keep its length and lose its bytes. By default ext4 has zeros in
+their place: each sync of the node's record also keeps the console's length, whose bytes are written
+up to half a minute later. So the console is synced now and then, and a note beside it,
+CONSOLE.synced, says how many bytes that were, and in which boot of the machine. A node that is
+started in that boot goes on behind all that is there. In another one, and where there is no note,
+the console is cut to what was synced. The node writes the rest again: it runs the program from its
+begin in any case, and --seen says how much of the output is there.
+
+The console is synced before it is noted, and what is noted is never changed. So at each moment the
+note is right, also an older one that comes back with a cut of the power. A console that is no
+regular file, such as a terminal or a pipe, has none."""
+
+import collections
+import contextlib
+import errno
+import os
+import re
+import stat
+import threading
+
+from ..whole import put_whole, remove_whole
+
+# The least time between two syncs, and how long the end of one is waited for, in seconds.
+PAUSE, LONGEST = 2.0, 0.5
+# How many bytes of a console are read at once.
+PIECE = 1 << 20
+BOOT = "/proc/sys/kernel/random/boot_id"
+# A boot that is no other's, and not trusted.
+NO_BOOT = "-"
+
+# How many bytes were synced, and the boot in which nothing else was done to the console.
+Note = collections.namedtuple("Note", "length boot")
+NOTE = re.compile(rb"pgroup console synced (\d{1,19}) boot ([0-9a-f-]{1,64})\n")
+
+
+def text_of_note(note):
+    return f"pgroup console synced {note.length} boot {note.boot}\n".encode("ascii")
+
+
+def note_at(path):
+    """The note in a file, or None where it cannot be read."""
+    try:
+        with open(path, "rb") as file:
+            found = NOTE.fullmatch(file.read(128))
+    except OSError:
+        return None
+    return found and Note(int(found[1]), found[2].decode("ascii"))
+
+
+def boot_of_machine():
+    """What the system calls its present boot."""
+    try:
+        with open(BOOT, encoding="ascii") as file:
+            return file.read().strip() or NO_BOOT
+    except (OSError, ValueError):
+        return NO_BOOT
+
+
+def open_console(path):
+    """Opens the file that gets the output, at its end. A pipe that nobody reads is no fault that
+    stays."""
+    flags = os.O_WRONLY | os.O_APPEND | os.O_CREAT | os.O_NOCTTY | os.O_NONBLOCK | os.O_CLOEXEC
+    try:
+        console = os.open(path, flags, 0o666)
+    except OSError as fault:
+        if fault.errno == errno.ENXIO:
+            raise BlockingIOError(errno.EAGAIN, "nobody reads this console", path)
+        raise
+    os.set_blocking(console, True)
+    return console
+
+
+def nuls_in(path, first, last):
+    """How many of these bytes of a file are 0. A console that may not be read has none."""
+    count = 0
+    with contextlib.suppress(PermissionError), open(path, "rb") as file:
+        file.seek(first)
+        for at in range(first, last, PIECE):
+            count += file.read(min(PIECE, last - at)).count(0)
+    return count
+
+
+class Console:
+    """The console at a path. It is opened anew for each process of the node."""
+
+    def __init__(self, path):
+        self.path, self.place = path, None
+        self.file = self.noted = self.fault = None
+        self.boot, self.due, self.syncing = boot_of_machine(), 0.0, None
+
+    def open(self):
+        """Opens it and cuts what is not trusted, once no process writes to it. Returns what is said
+        of a cut, or None."""
+        if self.is_syncing(LONGEST):
+            raise BlockingIOError(errno.EAGAIN, "waits for its disk", self.path)
+        self.close()
+        self.file = open_console(self.path)
+        self.due, self.place = 0.0, None
+        if not stat.S_ISREG(os.fstat(self.file).st_mode):
+            return None
+        self.place = os.path.realpath(self.path) + ".synced"
+        self.noted = note_at(self.place)
+        return self.mend()
+
+    def length(self):
+        return os.fstat(self.file).st_size
+
+    def mend(self):
+        """Cuts the file to what is trusted, unless that is all of it."""
+        length, note = self.length(), self.noted
+        is_there = note is not None and note.length <= length
+        is_followed = is_there and note.boot == self.boot != NO_BOOT
+        kept = note.length if is_there else 0
+        nuls = nuls_in(self.path, kept, length)
+        if is_followed and not nuls:
+            return None
+        if not is_followed and nuls_in(self.path, 0, kept):
+            nuls, kept = nuls_in(self.path, 0, length), 0
+        if note and note.length != kept:
+            remove_whole(self.place)
+        self.noted = note if note and note.length == kept else None
+        if kept == length:
+            return None
+        os.ftruncate(self.file, kept)
+        lost = f", and {nuls} of the others were NULs" if nuls else ""
+        return (
+            f"cuts the console {self.path} from {length} to {kept} bytes: no more of it is known "
+            f"to have been synced{lost}; the node writes the rest again"
+        )
+
+    def is_due(self):
+        """Whether there is more than what was noted."""
+        return self.place is not None and self.noted != Note(self.length(), self.boot)
+
+    def tend(self, now):
+        """Lets it be synced where it has grown, now and then. Nothing waits for that: a disk may
+        take its time, and the heartbeats go on."""
+        if now < self.due or self.is_syncing() or not self.is_due():
+            return
+        self.due = now + PAUSE
+        # Without memory for that it is done later.
+        with contextlib.suppress(RuntimeError):
+            syncing = threading.Thread(target=self.sync, daemon=True)
+            syncing.start()
+            self.syncing = syncing
+
+    def is_syncing(self, seconds=0):
+        """Whether a sync is under way, and still so after these seconds."""
+        if self.syncing is not None:
+            self.syncing.join(seconds)
+        return self.syncing is not None and self.syncing.is_alive()
+
+    def sync(self):
+        """Syncs the file, and notes the length that it had before."""
+        try:
+            length = self.length()
+            if self.noted and length < self.noted.length:
+                # Somebody else has cut it: the next process of the node writes it anew.
+                remove_whole(self.place)
+                self.place = None
+            else:
+                self.sync_file()
+                self.note(Note(length, self.boot))
+        except OSError as fault:
+            self.fault = fault
+
+    def sync_file(self):
+        try:
+            os.fsync(self.file)
+        except OSError as fault:
+            # What was written may be lost, though it can still be read.
+            self.boot, fault.filename = NO_BOOT, self.path
+            raise
+
+    def note(self, note):
+        put_whole(self.place, text_of_note(note))
+        self.noted = note
+
+    def finish(self):
+        """Syncs what the node has written, which has ended, and closes the file."""
+        if not self.is_syncing(LONGEST) and self.is_due():
+            self.sync()
+        self.close()
+
+    def close(self):
+        """Closes the file, unless a sync of it is under way."""
+        if self.file is not None and not self.is_syncing():
+            os.close(self.file)
+            self.file = self.place = None

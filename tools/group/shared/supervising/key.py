@@ -1,0 +1,64 @@
+"""The key that supervisors of a group share, and by which they know each other's datagrams."""
+
+import hmac
+import os
+import secrets
+import stat
+
+from ..files import Refused, refuse_lasting
+
+# The least and the most bytes of a key.
+LEAST, MOST = 32, 4096
+SIGNED = b"mac "
+
+
+def make_key(path):
+    """Makes the file of a key, which nobody else may read. None is written over."""
+    try:
+        file = os.open(path, os.O_WRONLY | os.O_CREAT | os.O_EXCL | os.O_CLOEXEC, 0o600)
+    except FileExistsError:
+        raise Refused(f"--new-beats-key, and there is {path}: leave --new-beats-key out")
+    with open(file, "wb") as out:
+        os.fchmod(out.fileno(), 0o600)
+        out.write(secrets.token_hex(LEAST).encode("ascii") + b"\n")
+        out.flush()
+        os.fsync(out.fileno())
+
+
+def key_of(path):
+    """The key in a file, without the end of its line. Refused where others may read or change it,
+    or it is too short."""
+    with open(path, "rb", opener=lambda *it: os.open(*it, os.O_CLOEXEC)) as file:
+        status = os.fstat(file.fileno())
+        if not stat.S_ISREG(status.st_mode):
+            raise Refused(f"{path} is no file with a key")
+        if stat.S_IMODE(status.st_mode) & 0o177 or status.st_uid not in (0, os.geteuid()):
+            raise Refused(f"{path} is not for its owner alone: chmod 600 {path}")
+        key = file.read(MOST + 1).rstrip(b"\r\n")
+    if not LEAST <= len(key) <= MOST:
+        raise Refused(f"{path} has {len(key)} bytes, and a key has {LEAST} to {MOST}")
+    return key
+
+
+def shared_key(words):
+    """The key of the words, which is made first where they say so, or None."""
+    if words.beats_key is None:
+        return None
+    try:
+        if words.new_beats_key:
+            make_key(words.beats_key)
+        return key_of(words.beats_key)
+    except OSError as fault:
+        refuse_lasting(fault)
+        raise
+
+
+def signed(data, key):
+    """A datagram with its last line, which says that somebody with the key has sent it."""
+    return data + SIGNED + hmac.new(key, data, "sha256").hexdigest().encode("ascii") + b"\n"
+
+
+def is_signed(data, key):
+    """Whether a datagram has such a line at its end."""
+    body, _, mac = data.rpartition(SIGNED)
+    return hmac.compare_digest(signed(body, key), body + SIGNED + mac)
