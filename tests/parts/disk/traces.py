@@ -22,6 +22,9 @@ Call = collections.namedtuple("Call", "number name words told done")
 CHANGES = os.O_WRONLY | os.O_RDWR | os.O_CREAT | os.O_TRUNC
 # Where one of these fails, the save or the load has failed. A call that was interrupted has not.
 NEEDED = ("open", "read", "write", "fsync", "fdatasync", "rename")
+# What the name of the lock's file ends with. A record may be loaded without it, and it is opened
+# again before the first save.
+LOCK = ".lock"
 
 
 def call_of(line):
@@ -30,6 +33,15 @@ def call_of(line):
     told, done = back.split(" ")
     number, done = (None if it == "-" else int(it) for it in (number, done))
     return Call(number, name, words, int(told), done)
+
+
+def is_of_lock(call):
+    return call.name == "open" and call.words[0].endswith(LOCK)
+
+
+def is_needed(call):
+    """Whether a save or the load fails where the call does."""
+    return call.name in NEEDED and not is_of_lock(call)
 
 
 def calls_in(path):
@@ -132,6 +144,7 @@ class Disk:
         record, or None; `group` the size and the session. A thorough look is at all that a cut of
         the power may leave, and another one at the least and the most."""
         self.path, self.fresh, self.folder = path, path + ".new", os.path.dirname(path) or "."
+        self.lock, self.is_locked = path + LOCK, False
         self.names = {} if before is None else {path: File(before)}
         self.handles = {}
         self.possible = [self.names.get(path)]
@@ -158,7 +171,7 @@ class Disk:
             raise Broken(f"{fault}: at {line_of(call)}")
         is_of_it = call.name == "open" and call.words[0] == self.path
         is_missing = is_of_it and call.told == -errno.ENOENT
-        if call.name in NEEDED and call.told < 0 and call.told != -errno.EINTR and not is_missing:
+        if is_needed(call) and call.told < 0 and call.told != -errno.EINTR and not is_missing:
             self.failed = self.failed or call
 
     def must_go_on(self):
@@ -188,6 +201,9 @@ class Disk:
 
     def do_open(self, call):
         path, flags = os.path.normpath(call.words[0]), int(call.words[1])
+        if path == self.lock:
+            self.open_lock(call, flags)
+            return
         must(path in (self.path, self.fresh, self.folder), "another file of the folder is opened")
         is_change = bool(flags & CHANGES)
         if is_change:
@@ -195,6 +211,7 @@ class Disk:
             which = " and ".join(sorted(self.loading))
             must(self.saves or not self.loading, f"the load has not synced {which}")
             must(path == self.fresh, "the record is opened for more than to be read")
+            must(self.is_locked, "the second file is begun without the lock")
         if path == self.fresh:
             must(flags & os.O_CREAT and flags & os.O_TRUNC, "the second file is not begun anew")
         if call.done is None or call.done < 0:
@@ -204,6 +221,13 @@ class Disk:
         if call.told >= 0:
             is_append = bool(flags & os.O_APPEND)
             self.handles[call.told] = Handle(self.names.get(path), is_change, is_append)
+
+    def open_lock(self, call, flags):
+        """The file of the lock is made and never written. Without it a record may be loaded."""
+        must(flags & CHANGES == os.O_WRONLY | os.O_CREAT, "the lock is opened otherwise")
+        if call.told >= 0:
+            self.is_locked = True
+            self.handles[call.told] = Handle(None, False, False)
 
     def do_read(self, call):
         self.handles[int(call.words[0])].is_used = True
