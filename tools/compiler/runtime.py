@@ -13,7 +13,7 @@ from .parsing.lexer import Lexer, fold
 from .parsing.texts import read_text
 
 FOLDER = os.path.join(os.path.dirname(os.path.abspath(__file__)), "library")
-FILES = ("blocks", "output", "input", "strings", "sets", "heap")
+FILES = ("blocks", "output", "input", "strings", "sets", "heap", "reals", "decimals", "transcend")
 # A procedure begins and ends at the first column of a line, and no other word END does.
 ROUTINE = re.compile(r"^(?:PROCEDURE|FUNCTION) (\w+).*?^END;", re.M | re.S)
 
@@ -52,7 +52,7 @@ class Library:
     def __init__(self, checker, constants):
         self.checker = checker
         self.symbols = {fold(name): ConstantSymbol(INTEGER, it) for name, it in constants.items()}
-        self.symbols["ADDRESS"] = Standard("ADDRESS")
+        self.symbols.update((name, Standard(name)) for name in ("ADDRESS", "REALOF"))
         self.blocks = {}  # of each routine the one that waits to be checked
         rests, routines = parts()
         self.routines = dict(routines)  # that nobody has asked for

@@ -3,7 +3,7 @@
 from . import tree
 from .locations import is_packed, is_word
 from .sets import Sets
-from .types import Set, String, is_ordinal, is_same, with_article
+from .types import REAL, Set, String, is_ordinal, is_same, with_article
 
 
 class Calls(Sets):
@@ -54,6 +54,8 @@ class Calls(Sets):
         """What is pushed for a value of a type: the value, or the address of its words."""
         if is_word(wanted):
             return self.fitted(value, wanted, node, node.place.is_checked)
+        if wanted is REAL:
+            return self.real(value, node)
         if isinstance(wanted, String):
             return tree.StringAddress(self.string(node))
         if isinstance(wanted, Set):

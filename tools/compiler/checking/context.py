@@ -8,7 +8,8 @@ from ..parsing.lexer import fold
 from . import tree
 from .symbols import (ConstantSymbol, FileSymbol, OpenedField, Routine, Standard, TypeSymbol,
                       Variable)
-from .types import BOOLEAN, INTEGER, is_ordinal, with_article
+from .reals import SIGN, real_of_text
+from .types import BOOLEAN, INTEGER, REAL, is_ordinal, with_article
 
 KINDS = {ConstantSymbol: "a constant", TypeSymbol: "a type", Variable: "a variable",
          OpenedField: "a field", Standard: "a standard procedure", FileSymbol: "a file"}
@@ -42,7 +43,8 @@ class Context:
     def need(self, node, kind, wanted):
         """Refuses a value of another host than is wanted."""
         if not is_ordinal(kind, wanted):
-            self.refuse_type(node, kind, with_article(wanted))
+            hint = ": TRUNC or ROUND makes one" if kind is REAL and wanted is INTEGER else ""
+            self.refuse_type(node, kind, with_article(wanted), hint)
 
     def constant(self, node):
         """What a constant of the syntax tree is: a ConstantSymbol."""
@@ -52,6 +54,12 @@ class Context:
             if node.value > 32767:
                 self.refuse("32768 is above 32767, the greatest INTEGER", node.place)
             return ConstantSymbol(INTEGER, node.value)
+        if isinstance(node, syntax.Real):
+            bits = real_of_text(node.written)
+            if bits is None:
+                self.refuse(f"{node.written[:24]} is above 3.40282E38, the greatest REAL",
+                            node.place)
+            return ConstantSymbol(REAL, bits)
         if isinstance(node, syntax.Text):
             value = self.text(node.value)
             is_text = isinstance(value, tree.TextValue)
@@ -68,6 +76,9 @@ class Context:
         if isinstance(operand, syntax.Number) and node.operator == "-":
             return ConstantSymbol(INTEGER, -operand.value)
         symbol = self.constant(operand)
+        if symbol.type is REAL:
+            is_turned = node.operator == "-" and symbol.value
+            return ConstantSymbol(REAL, symbol.value ^ SIGN if is_turned else symbol.value)
         self.need(operand, symbol.type, INTEGER)
         return ConstantSymbol(INTEGER, -symbol.value if node.operator == "-" else symbol.value)
 

@@ -9,7 +9,7 @@ from .context import kind_of
 from .locations import is_word
 from .statements import Statements
 from .symbols import Broken, Copy, Parameter, Routine, Scopes, TypeSymbol, Variable
-from .types import File, Ordinal, Pointer, Record, String
+from .types import REAL, File, Ordinal, Pointer, Record, String
 
 MOST_ROUTINES = 255
 DEEPEST = 127
@@ -184,19 +184,21 @@ class Checker(Statements):
             if isinstance(routine.result, String):
                 self.refuse("UCSD Pascal had no functions that give a STRING: take a VAR parameter "
                             "for it", node.result.place)
-            if not isinstance(routine.result, (Ordinal, Pointer)):
+            if not isinstance(routine.result, (Ordinal, Pointer)) and routine.result is not REAL:
                 self.refuse(f"a function gives a number, character, Boolean, name of a list or "
                             f"pointer, and not a {routine.result}: take a VAR parameter",
                             node.result.place)
-        words = len(routine.parameters) + (RESULT_WORDS if node.is_function else 0)
+        words = sum(map(pushed_words, routine.parameters))
+        words += RESULT_WORDS if node.is_function else 0
         routine.words = routine.parameter_words = words
 
     def declare_parameters(self, routine):
         """The first parameter is pushed first, and so has the greatest offset."""
-        for k, parameter in enumerate(routine.parameters):
-            offset = routine.parameter_words - k
+        offset = routine.parameter_words + 1
+        for parameter in routine.parameters:
+            offset -= pushed_words(parameter)
             kind = parameter.type
-            if parameter.is_var or is_word(kind):
+            if parameter.is_var or is_word(kind) or kind is REAL:
                 variable = Variable(kind, routine, offset, parameter.is_var)
             else:
                 copy = routine.allocate(kind.size, parameter.place)
@@ -205,3 +207,8 @@ class Checker(Statements):
             name = syntax.Name(parameter.place, fold(parameter.name), parameter.name)
             with self.faults.caught():
                 self.scopes.declare(name, variable)
+
+
+def pushed_words(parameter):
+    """How many words a call pushes for a parameter."""
+    return 2 if parameter.type is REAL and not parameter.is_var else 1

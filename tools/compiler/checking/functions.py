@@ -5,8 +5,9 @@ from . import tree
 from .calls import Calls
 from .context import low_bit, number
 from .locations import is_packed
+from .real_values import FUNCTIONS
 from .symbols import FileSymbol, Routine, TypeSymbol, Variable
-from .types import BOOLEAN, CHAR, INTEGER, Pointer, String, is_ordinal, wrap
+from .types import BOOLEAN, CHAR, INTEGER, REAL, Pointer, String, is_ordinal, wrap
 
 
 class StandardFunctions(Calls):
@@ -17,14 +18,20 @@ class StandardFunctions(Calls):
             "LENGTH": self.length, "POS": self.pos, "CONCAT": self.concat, "COPY": self.copy,
             "EOLN": self.end_of, "EOF": self.end_of, "IORESULT": self.ioresult,
             "MEMAVAIL": self.memavail, "SIZEOF": self.sizeof, "ADDRESS": self.address,
-            "SCAN": self.scan, "UNITBUSY": self.unitbusy,
+            "SCAN": self.scan, "UNITBUSY": self.unitbusy, "TRUNC": self.whole,
+            "ROUND": self.whole, "PWROFTEN": self.power_of_ten, "REALOF": self.made_real,
+            **dict.fromkeys(FUNCTIONS, self.real_function),
         }
         if name not in makers:
             self.refuse(f"{name} is a procedure, and has no value", node.place)
         return makers[name](name, node)
 
     def abs_or_square(self, name, node):
-        value = self.integer(*self.take(node, 1))
+        argument, = self.take(node, 1)
+        value = self.value(argument)
+        if value.type is REAL:
+            return self.size_or_square(name, value, argument)
+        self.need(argument, value.type, INTEGER)
         if isinstance(value, tree.Constant):
             result = abs(value.value) if name == "ABS" else value.value ** 2
             return tree.Constant(INTEGER, wrap(result))

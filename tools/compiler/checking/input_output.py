@@ -5,7 +5,7 @@ from . import tree
 from .context import number
 from .locations import is_word
 from .procedures import StandardProcedures
-from .types import CHAR, INTEGER, Array, String
+from .types import CHAR, INTEGER, REAL, Array, String
 
 
 class InputOutput(StandardProcedures):
@@ -35,7 +35,7 @@ class InputOutput(StandardProcedures):
         """What an item is to write, if that is known here."""
         if not isinstance(item.value, (syntax.Text, syntax.Name)):
             return None
-        if isinstance(item.value, syntax.Name) and item.width:
+        if isinstance(item.value, syntax.Name) and item.width or item.places:
             return None
         value = self.value(item.value)
         if isinstance(value, tree.Constant) and value.type is CHAR:
@@ -54,6 +54,11 @@ class InputOutput(StandardProcedures):
     def item_written(self, node, item):
         value = self.value(item.value)
         width = self.integer(item.width) if item.width else number(0)
+        if value.type is REAL:
+            places = self.integer(item.places) if item.places else number(-1)
+            return self.perform(node, "WRITEREAL", value, width, places)
+        if item.places:
+            self.refuse("places behind a point are of a REAL alone", item.places.place)
         if isinstance(value.type, String) or isinstance(value, tree.TextValue):
             return self.perform(node, "WRITESTRING", tree.StringAddress(value), width)
         if isinstance(value.type, Array) and value.type.is_text:
@@ -62,8 +67,8 @@ class InputOutput(StandardProcedures):
         names = {"INTEGER": "WRITEINT", "CHAR": "WRITECHAR", "BOOLEAN": "WRITEBOOLEAN"}
         host = getattr(value.type, "host", None)
         if not is_word(value.type) or not host or host.name not in names:
-            self.refuse_type(item.value, value.type, "an INTEGER, CHAR, BOOLEAN, STRING or packed "
-                             "array of characters")
+            self.refuse_type(item.value, value.type, "an INTEGER, REAL, CHAR, BOOLEAN, STRING or "
+                             "packed array of characters")
         if host is CHAR and not item.width:
             return self.perform(node, "PUTCHAR", value)
         return self.perform(node, names[host.name], value, width)
@@ -86,9 +91,11 @@ class InputOutput(StandardProcedures):
         kind = location.type
         if isinstance(kind, String):
             return self.perform(node, "READSTR", unit, tree.Address(location), number(kind.most))
+        if kind is REAL:
+            return tree.Assign(node.place, location, self.call_library("READREAL", unit))
         host = getattr(kind, "host", None)
         if host not in (CHAR, INTEGER):
-            self.refuse_type(item.value, kind, "an INTEGER, CHAR or STRING")
+            self.refuse_type(item.value, kind, "an INTEGER, REAL, CHAR or STRING")
         value = self.call_library("READCHAR" if host is CHAR else "READINT", unit)
         value = self.fitted(value, kind, item.value, node.place.is_checked)
         return tree.Assign(node.place, location, value)

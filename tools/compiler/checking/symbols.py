@@ -6,17 +6,16 @@ from pcode.faults import Fault
 from pcode.fields import Fields
 
 from ..faults import Known, Lack, Place
-from ..parsing.lexer import REALS
 from ..parsing.types import FILES
-from .types import BOOLEAN, CHAR, INTEGER, MOST_WORDS, File, Pointer, String
+from .types import BOOLEAN, CHAR, INTEGER, MOST_WORDS, REAL, File, Pointer, String
 
 STANDARD_PROCEDURES = (
     "CLOSE DELETE DISPOSE EXIT FILLCHAR GET GOTOXY HALT INSERT MARK MOVELEFT MOVERIGHT NEW "
     "PAGE READ READLN RELEASE RESET REWRITE STR UNITCLEAR UNITREAD UNITWAIT UNITWRITE WRITE "
     "WRITELN").split()
 STANDARD_FUNCTIONS = (
-    "ABS CHR CONCAT COPY EOF EOLN IORESULT LENGTH MEMAVAIL ODD ORD POS PRED SCAN SIZEOF SQR SUCC "
-    "UNITBUSY"
+    "ABS ARCTAN ATAN CHR CONCAT COPY COS EOF EOLN EXP IORESULT LENGTH LN LOG MEMAVAIL ODD ORD POS "
+    "PRED PWROFTEN ROUND SCAN SIN SIZEOF SQR SQRT SUCC TRUNC UNITBUSY"
 ).split()
 READ_FILES = {"INPUT": 1, "KEYBOARD": 2}  # with their numbers in the library
 TEXT = File()
@@ -24,7 +23,7 @@ STANDARD_FILES = ("INPUT", "OUTPUT", "KEYBOARD")
 
 
 class ConstantSymbol(Fields):
-    """`value` is a number, or of a text in quotes a string."""
+    """`value` is a number, of a text in quotes a string, and of a REAL its bits."""
 
     type: Any
     value: Any
@@ -116,7 +115,7 @@ def standard_scope():
     """What is known without a declaration."""
     scope = {"INTEGER": TypeSymbol(INTEGER), "BOOLEAN": TypeSymbol(BOOLEAN),
              "TEXT": TypeSymbol(TEXT), "INTERACT": TypeSymbol(TEXT),
-             "CHAR": TypeSymbol(CHAR), "STRING": TypeSymbol(String(80)),
+             "CHAR": TypeSymbol(CHAR), "REAL": TypeSymbol(REAL), "STRING": TypeSymbol(String(80)),
              "FALSE": ConstantSymbol(BOOLEAN, 0), "TRUE": ConstantSymbol(BOOLEAN, 1),
              "MAXINT": ConstantSymbol(INTEGER, 32767), "NIL": ConstantSymbol(Pointer(), 0)}
     for name in STANDARD_PROCEDURES + STANDARD_FUNCTIONS:
@@ -171,10 +170,8 @@ def hint_of(name):
     return " (of a name the first 8 characters count)" if len(name.written) > 8 else ""
 
 
-REALS_ABSENT = "there are no real numbers: take an INTEGER, of hundredths or the like"
 ABSENT = {
     FILES: "PUT SEEK BLOCKREAD BLOCKWRITE",
-    REALS: "REAL SIN COS ATAN EXP LN LOG SQRT TRUNC ROUND PWROFTEN",
     "there is no clock, so that all nodes of a group see the same: READ the time": "TIME",
     "it is of the p-System's own programs": "IDSEARCH TREESEARCH UNITSTATUS MEMLOCK MEMSWAP",
 }
@@ -183,6 +180,5 @@ ABSENT = {
 def refusal_of(name):
     for feature, names in ABSENT.items():
         if name.name in [it[:8] for it in names.split()]:
-            why = REALS_ABSENT if feature == REALS else feature
-            return Lack(f"{name.written}: {why}", name.place, feature)
+            return Lack(f"{name.written}: {feature}", name.place, feature)
     return Fault(f"{name.written} is not declared", name.place)

@@ -18,6 +18,13 @@ class Constant(Fields):
     value: int
 
 
+class RealValue(Fields):
+    """A REAL that is known, as its bits."""
+
+    type: Any
+    value: int
+
+
 class TextValue(Fields):
     """A text in quotes."""
 
@@ -166,7 +173,7 @@ class Block(Fields):
 
 
 class Assign(Fields):
-    """Stores a value of one word."""
+    """Stores a value of one word, or a REAL."""
 
     place: Place
     location: Any

@@ -133,6 +133,18 @@ class File:
         return "TEXT"
 
 
+class Real:
+    """REAL: two words, of which the second has the sign and the exponent."""
+
+    size = 2
+
+    def __str__(self):
+        return "REAL"
+
+
+REAL = Real()
+
+
 class TextType(Fields):
     """The type of a text in quotes that is not one character."""
 

@@ -2,16 +2,15 @@
 
 import operator
 
-from ..faults import Lack
 from ..parsing import syntax
 from ..parsing.expressions import PARENTHESES
-from ..parsing.lexer import REALS
 from . import tree
 from .context import kind_of, low_bit, number
-from .locations import Locations, is_text_literal, is_word, literal_text
+from .locations import is_text_literal, is_word, literal_text
+from .real_values import RealValues
 from .symbols import ConstantSymbol, FileSymbol, OpenedField, Routine, Standard, Variable
-from .types import (BOOLEAN, CHAR, INTEGER, Array, File, Pointer, Set, String, TextType, is_ordinal,
-                    is_same, with_article, wrap)
+from .types import (BOOLEAN, CHAR, INTEGER, REAL, Array, File, Pointer, Set, String, TextType,
+                    is_ordinal, is_same, with_article, wrap)
 
 ARITHMETIC = {"+": "ADI", "-": "SBI", "*": "MPI", "DIV": "DVI", "MOD": "MODI"}
 BITWISE = {"AND": "LAND", "OR": "LOR"}
@@ -35,11 +34,12 @@ COMPARED = {"=": operator.eq, "<>": operator.ne, "<": operator.lt, "<=": operato
             ">": operator.gt, ">=": operator.ge}
 
 
-class Values(Locations):
+class Values(RealValues):
     def value(self, node):
         """The checked tree of an expression."""
         makers = {
             syntax.Number: self.number, syntax.Text: lambda it: self.text(it.value),
+            syntax.Real: lambda it: tree.RealValue(REAL, self.constant(it).value),
             syntax.Name: self.named, syntax.Call: self.call_value,
             syntax.Operation: self.operation, syntax.Unary: self.unary, syntax.SetOf: self.set_of,
         }
@@ -64,6 +64,8 @@ class Values(Locations):
         if isinstance(symbol, ConstantSymbol):
             if isinstance(symbol.type, TextType):
                 return tree.TextValue(symbol.type, symbol.value)
+            if symbol.type is REAL:
+                return tree.RealValue(REAL, symbol.value)
             return tree.Constant(symbol.type, symbol.value)
         if isinstance(symbol, (Variable, OpenedField)):
             return self.loaded(self.variable(name))
@@ -110,7 +112,10 @@ class Values(Locations):
             return tree.Operation(BOOLEAN, ("LNOT",), [value])
         if isinstance(node.operand, syntax.Number) and node.operator == "-":
             return tree.Constant(INTEGER, -node.operand.value)
-        value = self.integer(node.operand)
+        value = self.value(node.operand)
+        if value.type is REAL:
+            return value if node.operator == "+" else self.negative(value)
+        self.need(node.operand, value.type, INTEGER)
         if node.operator == "+":
             return value
         if isinstance(value, tree.Constant):
@@ -119,9 +124,6 @@ class Values(Locations):
 
     def operation(self, node):
         left, right = self.value(node.left), self.value(node.right)
-        if node.operator == "/":
-            raise Lack("/ divides real numbers, and there are none: DIV divides an INTEGER",
-                       node.place, REALS)
         if node.operator == "IN":
             return self.membership(node, left, right)
         if node.operator in COMPARISONS:
@@ -136,6 +138,8 @@ class Values(Locations):
             return tree.Operation(BOOLEAN, (BITWISE[node.operator],), [left, right])
         if node.operator in "+-*" and isinstance(left.type, Set) and isinstance(right.type, Set):
             return self.set_operation(node, left, right)
+        if node.operator == "/" or REAL in (left.type, right.type):
+            return self.real_operation(node, left, right)
         return self.arithmetic(node, left, right)
 
     def arithmetic(self, node, left, right):
@@ -160,6 +164,9 @@ class Values(Locations):
             return self.compared(node, left, right)
         if isinstance(left.type, Set) and isinstance(right.type, Set):
             return self.compared_sets(node, left, right)
+        if REAL in (left.type, right.type):
+            order = self.order_of_reals(node, left, right)
+            return self.compared_words(node, order, number(0))
         if self.is_string(left) and self.is_string(right):
             order = self.call_library("COMPARE", tree.StringAddress(as_text(left)),
                                       tree.StringAddress(as_text(right)))

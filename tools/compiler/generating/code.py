@@ -34,6 +34,8 @@ class Code:
             self.depth += STANDARD[operands[0]]
         elif name == "STM":
             self.depth -= operands[0] + 1
+        elif name == "LDM":
+            self.depth += operands[0] - 1
         else:
             self.depth += ADDED.get(name, TWO_TO_ONE)
 

@@ -32,7 +32,7 @@ class RoutineGenerator(Statements):
         self.statement(routine.body)
         code.set("exit")
         self.end_exit()
-        code.emit("RNP" if routine.level else "RBP", 1 if routine.result else 0)
+        code.emit("RNP" if routine.level else "RBP", routine.result.size if routine.result else 0)
         if self.most > MOST_WORDS:
             raise Fault(f"the variables of {routine.name} have {self.most} words, and {MOST_WORDS} "
                         "are all that a machine has", routine.place)

@@ -138,6 +138,23 @@ class Places:
         else:
             self.code.emit("LDB" if isinstance(place, Bytes) else "LDP")
 
+    def load_words(self, place, words):
+        """Loads some words, the first of which is on top then."""
+        if isinstance(place, Frame):
+            for word in reversed(range(words)):
+                self.load(place.moved(word))
+        else:
+            self.prepare(place)
+            self.code.emit("LDM", words)
+
+    def store_words_of(self, place, words):
+        """Stores them. Behind an address it is pushed in front of them."""
+        if isinstance(place, Frame):
+            for word in range(words):
+                self.store(place.moved(word))
+        else:
+            self.code.emit("STM", words)
+
     def prepare(self, place):
         """What a store needs in front of the value."""
         if isinstance(place, Pointer) and place.offset:

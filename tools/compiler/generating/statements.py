@@ -3,6 +3,7 @@
 from contextlib import contextmanager
 
 from ..checking import tree
+from ..checking.types import REAL
 from .blocks import Blocks
 from .places import Frame
 from .values import words_of
@@ -51,7 +52,10 @@ class Statements(Blocks):
         place = self.place(node.location)
         self.prepare(place)
         self.push(node.value)
-        self.store(place)
+        if node.location.type is REAL:
+            self.store_words_of(place, REAL.size)
+        else:
+            self.store(place)
 
     def move_words(self, node):
         self.push_address(self.place(node.location))

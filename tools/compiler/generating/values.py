@@ -1,6 +1,8 @@
 """Values, and calls."""
 
 from ..checking import tree
+from ..checking.reals import words_of as words_of_real
+from ..checking.types import REAL
 from .places import Frame, Places
 
 EQUAL_JUMPS = {"EQUI": "EFJ", "NEQI": "NFJ"}  # they jump where it does not hold
@@ -18,7 +20,7 @@ class Values(Places):
         """Pushes a value, or the address that an argument is."""
         makers = {
             tree.Constant: lambda it: self.code.number(it.value),
-            tree.Load: lambda it: self.load(self.place(it.location)),
+            tree.Load: self.load_value, tree.RealValue: self.real_value,
             tree.Operation: self.operation, tree.Call: self.call, tree.Among: self.among,
             tree.Address: lambda it: self.push_address(self.place(it.location)),
             tree.ByteAddress: lambda it: self.push_bytes(it.location),
@@ -27,6 +29,17 @@ class Values(Places):
             tree.TextValue: lambda it: self.text(words_of(it.text)),
         }
         makers[type(node)](node)
+
+    def load_value(self, node):
+        place = self.place(node.location)
+        if node.type is REAL:
+            self.load_words(place, REAL.size)
+        else:
+            self.load(place)
+
+    def real_value(self, node):
+        for word in reversed(words_of_real(node.value)):
+            self.code.number(word)
 
     def operation(self, node):
         for operand in node.operands:
@@ -112,7 +125,7 @@ class Values(Places):
             self.code.emit("CLP" if routine.parent is self.routine else "CIP", number)
         self.code.depth -= routine.parameter_words
         if routine.result:
-            self.code.depth += 1
+            self.code.depth += routine.result.size
         if self.program.exits.get(routine):
             self.leave_if_asked()
 

@@ -1,7 +1,6 @@
 """The parser of expressions."""
 
 from . import syntax
-from .lexer import REALS
 from .reader import Reader
 
 COMPARISONS = ("=", "<>", "<", "<=", ">", ">=", "IN")
@@ -51,6 +50,9 @@ class ExpressionParser(Reader):
         if token.kind == "number":
             self.next()
             return syntax.Number(token.place, token.value)
+        if token.kind == "real":
+            self.next()
+            return syntax.Real(token.place, token.value)
         if token.kind == "text":
             self.next()
             return syntax.Text(token.place, token.value)
@@ -126,18 +128,14 @@ class ExpressionParser(Reader):
             return syntax.Argument(place, syntax.Unary(place, token.kind, self.expression()))
         value = self.expression()
         width = self.expression() if self.take(":") else None
-        if width and self.kind == ":":
-            token = self.next()
-            self.lack("places behind a point are of real numbers, and there are none", token.place,
-                      REALS)
-            self.expression()
-        return syntax.Argument(place, value, width)
+        places = self.expression() if width and self.take(":") else None
+        return syntax.Argument(place, value, width, places)
 
     def constant(self):
         """A number, a character or text in quotes, or a name, with a sign."""
         sign = self.next() if self.kind in ("+", "-") else None
         token = self.now
-        if token.kind not in ("number", "text", "name"):
+        if token.kind not in ("number", "real", "text", "name"):
             self.refuse(f"a constant is wanted, and not {token}")
         value = self.name() if token.kind == "name" else self.factor()
         return syntax.Unary(sign.place, sign.kind, value) if sign else value

@@ -6,7 +6,7 @@ from typing import Any, List, NamedTuple
 
 from pcode.faults import Fault
 
-from ..faults import Lack, Place
+from ..faults import Place
 from .texts import included_path, read_text
 
 # Of a word the first eight characters count.
@@ -39,11 +39,10 @@ IDLE = {"C": "a comment of the code file", "D": "of the debugger", "F": "of the 
 
 # Options of other Pascals. $IFDEF would be $I with the name FDEF.
 CONDITION = re.compile(r"(IFDEF|IFNDEF|IFOPT|IF|ELSE|ELSEIF|ENDIF|IFEND|DEFINE|UNDEF)\b", re.I)
-REALS = "real numbers"
 
 
 class Token(NamedTuple):
-    """`kind` is name, number, text, or the keyword or symbol itself."""
+    """`kind` is name, number, real, text, or the keyword or symbol itself."""
 
     kind: str
     written: str
@@ -144,9 +143,7 @@ class Lexer:
                             "long integers", self.place())
             self.put("number", written, int(digits))
         elif group == "real":
-            self.put("number", written, 0)
-            raise Lack(f"{written[:12]} is a real number, and there are none: take an INTEGER, of "
-                       "hundredths or the like", self.place(), REALS)
+            self.put("real", written, written)
         elif group == "text":
             if len(written) > MOST_TEXT + 2:
                 raise Fault(f"a text has at most {MOST_TEXT} characters", self.place())

@@ -20,6 +20,10 @@ class Number(Node):
     value: int
 
 
+class Real(Node):
+    written: str
+
+
 class Text(Node):
     value: str
 
@@ -46,10 +50,11 @@ class Dereference(Node):
 
 
 class Argument(Node):
-    """VALUE or, in WRITE, VALUE:WIDTH."""
+    """VALUE or, in WRITE, VALUE:WIDTH, and of a REAL VALUE:WIDTH:PLACES."""
 
     value: Node
     width: Optional[Node] = None
+    places: Optional[Node] = None
 
 
 class Call(Node):

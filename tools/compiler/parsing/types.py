@@ -55,7 +55,7 @@ class TypeParser(StatementParser):
             names = self.names()
             self.want(")")
             return syntax.Enumeration(place, names)
-        if self.kind not in ("name", "number", "text", "+", "-"):
+        if self.kind not in ("name", "number", "real", "text", "+", "-"):
             self.refuse(f"a type is wanted, and not {self.now}")
         low = self.constant()
         if self.take(".."):
