@@ -14,6 +14,7 @@ from .generating.generator import Generator
 from .parsing.declarations import Parser
 from .parsing.lexer import Lexer
 from .runtime import Library
+from .units import APPLESTUFF, Units
 
 LINE_ENDS = {"lf": 10, "cr": 13}
 HEAP = 4000
@@ -45,25 +46,31 @@ class Refused(Exception):
         self.faults = faults
 
 
-def parsed(text, file, faults):
-    """The syntax tree of a program. If it has a fault, that is noted, and there may be no tree."""
-    lexer, program = Lexer(text, file), None
+def parsed(text, file, faults, entry=Parser.program):
+    """The syntax tree of a program, or of a unit. If it has a fault, that is noted, and there may
+    be no tree."""
+    lexer, found = Lexer(text, file), None
     parser = Parser(lexer.all(), faults)
     with faults.caught():
-        program = parser.program()
+        found = entry(parser)
     for remark in lexer.remarks:
-        if program and remark.at >= parser.at:  # behind the last END.
+        if found and remark.at >= parser.at:  # behind the last END.
             break
         if isinstance(remark.what, Fault):
             faults.add(remark.what)
         else:
             faults.note(remark.what, remark.place)
-    return program
+    return found
 
 
-def library_of(checker, options):
+def parsed_unit(text, file, faults):
+    return parsed(text, file, faults, Parser.unit)
+
+
+def library_of(checker, options, units=()):
     return Library(checker, {"LINEEND": LINE_ENDS[options.line_end], "HEAPWORDS": options.heap,
-                             "ECHOED": 1 if options.is_echoed else 0})
+                             "ECHOED": 1 if options.is_echoed else 0,
+                             "MIXED": 1 if APPLESTUFF in units else 0})
 
 
 def checked(text, file, options):
@@ -72,10 +79,12 @@ def checked(text, file, options):
     checker = Checker(faults, LINE_ENDS[options.line_end])
     program = parsed(text, file, faults)
     if program:
+        used = Units(faults, parsed_unit)
+        units = used.of_program(program)
         of_form = dict(faults.places)
-        checker.library = library_of(checker, options)
+        checker.library = library_of(checker, options, used.used)
         with faults.caught():
-            checker.check_program(program)
+            checker.check_program(program, units, used.missing)
         faults.places = of_form or faults.places  # those of types are told once there are no others
     if not faults.is_right():
         raise Refused(faults.told())

@@ -19,18 +19,17 @@ BEGIN
   INITTURTLE; PLOT(3);
   RESET(F, 'DATA'); REWRITE(G, 'OUT'); CLOSE(F); PUT(F);
   BIG := 3; MORE := 4; L.N := 1;
-  TIME(N, N); TIME(N, N);
+  N := PADDLE(N); N := PADDLE(N);
   PENCOLOR(WHITE); N := RANDOM;
   MOVETO(N, N)
 END.
 """
 LACKS = [
-    ("2:6", "there are no units: put the procedures of TURTLEGRAPHICS", 5),
-    ("2:22", "there are no units: put the procedures of APPLESTUFF", 1),
+    ("2:6", "there is no TURTLEGRAPHICS, and no pictures", 4),
     ("3:14", "there are no files", 10),
     ("5:63", "there are no long integers", 3),
     ("6:29", "there are no external procedures", 1),
-    ("11:3", "TIME: there is no clock", 2),
+    ("11:8", "PADDLE: there are no paddles, buttons or sounds", 2),
 ]
 # Texts with one mistake, and the one place that is told, with a part of what is said.
 SINGLE = [
@@ -67,8 +66,9 @@ def try_lacks():
         is_so = line.startswith(f"old.pas:{place}: {part}") and line.endswith(often)
         must(is_so and ("times)" in line) == bool(often), f"{line!r} is not {place} {part} {often}")
     many = "".join(f"V{k} := 1;\n" for k in range(20))
-    told = faults_of("PROGRAM T; VAR F: FILE; BEGIN\n" + many + "CLOSE(F); TIME(1, 2) END.")
-    must(len(told) == 12 and "no files" in told[0] and "TIME" in told[11], f"beside faults: {told}")
+    told = faults_of("PROGRAM T; VAR F: FILE; BEGIN\n" + many + "CLOSE(F); IDSEARCH(1) END.")
+    is_so = len(told) == 12 and "no files" in told[0] and "IDSEARCH" in told[11]
+    must(is_so, f"beside faults: {told}")
     told = faults_of("PROGRAM T; VAR F: FILE; BEGIN I := ; F := END.")
     places = [it.split(": ")[0][6:] for it in told]
     must(places == ["1:19", "1:36", "1:43"], f"faults of form: {told}")

@@ -101,7 +101,8 @@ STATEMENTS = [
     ("WRITE(3.5E38)", 7, "3.5E38 is above 3.40282E38, the greatest REAL"),
     ("WRITE(SQR(2E19))", 11, "this is above 3.40282E38, the greatest REAL"),
     ("WRITE(PWROFTEN(38))", 16, "PWROFTEN has a number from 0 to 37, and not 38"),
-    ("TIME(I, I)", 1, "TIME: there is no clock"),
+    ("TIME(I, B)", 9, "B is a BOOLEAN, and an INTEGER is wanted here"),
+    ("I := PADDLE(1)", 6, "PADDLE: there are no paddles, buttons or sounds"),
     ("I := SCAN(1, 'A', S)", 14, "SCAN has = or <> in front of the character"),
     ("I := SCAN(1, =1, S)", 15, "this is an INTEGER, and a CHAR is wanted here"),
     ("I := ORD(='A')", 10, "= in front of a value is of SCAN's second parameter alone"),
@@ -127,7 +128,7 @@ DECLARATIONS = [
     ("VAR F, G: TEXT; PROCEDURE P; BEGIN F := G END;", 38, "a file is not assigned"),
     ("VAR F: TEXT; PROCEDURE P; BEGIN IF F = F THEN END;", 38, "cannot be compared by ="),
     ("VAR F: TEXT; PROCEDURE P; BEGIN CLOSE(F, KEEP) END;", 33, "CLOSE has a file, and LOCK"),
-    ("USES TURTLE;", 6, "there are no units: put the procedures of TURTLE into this text"),
+    ("USES TURTLE;", 6, "there is no unit TURTLE: put its text beside this one, as TURTLE.pas"),
     ("SEGMENT VAR X: CHAR;", 9, "PROCEDURE or FUNCTION is wanted behind SEGMENT, and not VAR"),
     ("PROCEDURE P; EXTERNAL;", 14, "there are no external procedures"),
     ("PROCEDURE P; FORWARD;", 11, "P is declared FORWARD, and its body is missing"),
@@ -155,7 +156,7 @@ DECLARATIONS = [
 ]
 # Whole texts, each with a place and what is said there.
 TEXTS = [
-    ("UNIT U; INTERFACE IMPLEMENTATION END.", "1:1", "this is a UNIT, and there are none"),
+    ("UNIT U; INTERFACE IMPLEMENTATION END.", "1:1", "this is a UNIT, which a program uses:"),
     ("", "1:1", "PROGRAM is wanted at the beginning, and not the end of the text"),
     ("PROGRAM A; BEGIN END", "1:21", ". is wanted behind the last END, and not the end"),
     ("PROGRAM A; BEGIN", "1:17", "a ; or END is wanted behind a statement"),

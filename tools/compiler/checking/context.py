@@ -88,6 +88,11 @@ class Context:
             self.refuse_type(node, symbol.type, "a number, character or name of a list")
         return symbol
 
+    def library_value(self, name):
+        """The value of a variable of the library."""
+        variable = self.library[fold(name)]
+        return tree.Load(variable.type, tree.VariableAt(variable.type, variable))
+
     def call_library(self, name, *arguments):
         """A call of a procedure or function of the run-time library."""
         routine = self.library[fold(name)]

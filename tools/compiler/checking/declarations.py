@@ -3,13 +3,14 @@
 from contextlib import contextmanager
 
 from ..parsing import syntax
-from ..parsing.declarations import no_unit
 from ..parsing.lexer import fold
+from ..units import APPLESTUFF
+from . import tree
 from .context import kind_of
 from .locations import is_word
-from .statements import Statements
 from .symbols import Broken, Copy, Parameter, Routine, Scopes, TypeSymbol, Variable
 from .types import REAL, File, Ordinal, Pointer, Record, String
+from .units import UnitParts, applestuff
 
 MOST_ROUTINES = 255
 DEEPEST = 127
@@ -19,13 +20,14 @@ RESULT_WORDS = 2
 FILE_WORDS = 2
 
 
-class Checker(Statements):
+class Checker(UnitParts):
     """The whole checker. Its entry is `check_program`; `library` is given in front of it."""
 
     def __init__(self, faults, line_end):
         super().__init__(Scopes(), faults, None)
         self.line_end = line_end
         self.main = Routine("PROGRAM", 0, None, None, words=FILE_WORDS, parameter_words=FILE_WORDS)
+        self.interfaces = {APPLESTUFF: applestuff()}
 
     # The run-time library. Its procedures and variables get their numbers and offsets where they
     # are used.
@@ -48,27 +50,26 @@ class Checker(Statements):
         else:
             self.declare(node)
 
-    def check_program(self, program):
-        """The routines of a program, the program itself first."""
+    def check_program(self, program, units=(), missing=None):
+        """The routines of a program and its units, the program itself first. `missing` is the
+        feature that names which are not declared are taken for."""
         main = self.main
         main.name, main.place, main.number = program.name.written, program.place, 1
         self.routines = [main]
-        if program.units:
-            self.scopes.units = no_unit(program.units[0])
+        self.scopes.units, self.routine = missing, main
+        begin = [self.check_unit(unit) for unit in units]
         self.scopes.open({program.name.name: main})
+        self.open_units(program.uses)
         self.scopes.open()
         self.block(main, program.block)
+        main.body = tree.Block(begin + [main.body])
         return self.routines
 
     def block(self, routine, block):
         around, self.routine = self.routine, routine
         for declaration in block.declarations:
             self.declare(declaration)
-        for symbol in self.scopes.scopes[-1].values():
-            if isinstance(symbol, Routine) and symbol.is_forward:
-                with self.faults.caught():
-                    self.refuse(f"{symbol.name} is declared FORWARD, and its body is missing",
-                                symbol.place)
+        self.refuse_missing(self.scopes.scopes[-1])
         routine.body = self.statement(block.body)
         self.check_labels()
         self.routine = around
@@ -143,11 +144,23 @@ class Checker(Statements):
     def check_again(self, node, routine):
         """The heading that comes behind a FORWARD declaration."""
         if node.parameters or node.result:
-            self.refuse(f"the parameters and the type of {node.name.written} stand at its FORWARD "
-                        "declaration alone", node.place)
+            self.refuse_another(node, routine)
         if node.is_function != bool(routine.result):
             self.refuse(f"{node.name.written} is declared FORWARD as {kind_of(routine)}",
                         node.place)
+
+    def refuse_another(self, node, routine):
+        """Refuses a heading that is repeated, if it is another one."""
+        again = Routine(node.name.written, routine.level, routine.parent, node.place)
+        self.heading(node, again)
+        pairs = list(zip(routine.parameters, again.parameters))
+        is_same = (len(routine.parameters) == len(again.parameters)
+                   and routine.result is again.result
+                   and all(one.type is other.type and one.is_var == other.is_var
+                           and fold(one.name) == fold(other.name) for one, other in pairs))
+        if not is_same:
+            self.refuse(f"{node.name.written} has other parameters or another type here than where "
+                        "it was declared first: leave them out here", node.place)
 
     def fresh_routine(self, node):
         level = self.routine.level + 1

@@ -18,7 +18,8 @@ class StandardFunctions(Calls):
             "LENGTH": self.length, "POS": self.pos, "CONCAT": self.concat, "COPY": self.copy,
             "EOLN": self.end_of, "EOF": self.end_of, "IORESULT": self.ioresult,
             "MEMAVAIL": self.memavail, "SIZEOF": self.sizeof, "ADDRESS": self.address,
-            "SCAN": self.scan, "UNITBUSY": self.unitbusy, "TRUNC": self.whole,
+            "KEYPRESS": self.keypress, "RANDOM": self.random, "SCAN": self.scan,
+            "UNITBUSY": self.unitbusy, "TRUNC": self.whole,
             "ROUND": self.whole, "PWROFTEN": self.power_of_ten, "REALOF": self.made_real,
             **dict.fromkeys(FUNCTIONS, self.real_function),
         }
@@ -109,6 +110,15 @@ class StandardFunctions(Calls):
         """No unit is ever busy."""
         unit = self.integer(*self.take(node, 1))
         return tree.Operation(BOOLEAN, ("LAND",), [unit, number(0)])
+
+    def keypress(self, _name, node):
+        """It is always TRUE: what is typed can only be waited for."""
+        self.take(node, 0)
+        return tree.Constant(BOOLEAN, 1)
+
+    def random(self, _name, node):
+        self.take(node, 0)
+        return self.call_library("RANDOMNUMBER")
 
     def scan(self, _name, node):
         """SCAN(LENGTH, =CHARACTER or <>CHARACTER, VARIABLE)."""

@@ -23,6 +23,7 @@ class StandardProcedures(StandardFunctions):
             "INSERT": self.insert, "MARK": self.mark, "MOVELEFT": self.move,
             "MOVERIGHT": self.move, "NEW": self.new, "PAGE": self.page,
             "READ": self.read, "READLN": self.read, "RELEASE": self.release, "RESET": self.get,
+            "NOTE": self.note, "RANDOMIZE": self.randomize, "TIME": self.time,
             "REWRITE": self.rewrite, "STR": self.str, "UNITCLEAR": self.unit_alone,
             "UNITREAD": self.transfer, "UNITWAIT": self.unit_alone, "UNITWRITE": self.transfer,
             "WRITE": self.write, "WRITELN": self.write,
@@ -86,6 +87,28 @@ class StandardProcedures(StandardFunctions):
     def unit_alone(self, _name, node):
         """UNITCLEAR(UNIT) and UNITWAIT(UNIT): nothing waits in a unit."""
         return self.perform(node, "IGNORE", self.integer(*self.take(node, 1)))
+
+    def note(self, _name, node):
+        """NOTE(PITCH, DURATION): nothing is heard."""
+        return tree.Block([self.perform(node, "IGNORE", self.integer(it))
+                           for it in self.take(node, 2)])
+
+    def randomize(self, _name, node):
+        self.take(node, 0)
+        return self.perform(node, "RESEED")
+
+    def time(self, _name, node):
+        """TIME(HIGH, LOW)."""
+        high, low = (self.integer_variable(it) for it in self.take(node, 2))
+        return tree.Block([self.perform(node, "TICK"),
+                           tree.Assign(node.place, high, self.library_value("TICKSHIGH")),
+                           tree.Assign(node.place, low, self.library_value("TICKSLOW"))])
+
+    def integer_variable(self, node):
+        location = self.location(node)
+        if location.type is not INTEGER:
+            self.refuse_type(node, location.type, "an INTEGER")
+        return location
 
     def get(self, name, node):
         """GET(FILE) and RESET(FILE), of what is read from the console."""

@@ -5,6 +5,7 @@ from contextlib import contextmanager
 from ..checking import tree
 from ..checking.types import REAL
 from .blocks import Blocks
+from .exits import nodes_of
 from .places import Frame
 from .values import words_of
 
@@ -104,6 +105,13 @@ class Statements(Blocks):
 
     def if_statement(self, node):
         code = self.code
+        if isinstance(node.test, tree.Constant):
+            kept, dropped = node.yes, node.no
+            if not node.test.value & 1:
+                kept, dropped = dropped, kept
+            if not any(isinstance(it, tree.Labelled) for it in nodes_of([dropped])):
+                self.statement(kept or tree.Block([]))
+                return
         otherwise = code.label()
         self.jump_unless(node.test, otherwise)
         self.statement(node.yes)

@@ -9,6 +9,7 @@ VAR
   WINDOW: ARRAY[1..2] OF CHAR;           { what was read last; a line's end is ' ' }
   ISFULL,                                { it has not been taken }
   ISEOLN, ISEOF: ARRAY[1..2] OF BOOLEAN;
+  KEYSREAD: INTEGER;                     { a sum of all keys, for RANDOMIZE }
 
 PROCEDURE NEXTKEY(F: INTEGER);
 VAR
@@ -17,6 +18,7 @@ BEGIN
   IF NOT ISEOF[F] THEN
     BEGIN
       UNITREAD(2, C, 1);
+      IF MIXED = 1 THEN KEYSREAD := 31 * KEYSREAD + ORD(C);
       ISEOF[F] := C = CHR(3);            { Ctrl-C }
       ISEOLN[F] := (C = CHR(10)) OR (C = CHR(13)) OR ISEOF[F];
       IF F = ECHOED THEN                 { which is 0 where nothing is to be shown }

@@ -6,32 +6,52 @@ from . import syntax
 from .lexer import BAD, END
 from .types import TypeParser
 
-PARTS = ("LABEL", "CONST", "TYPE", "VAR", "PROCEDUR", "FUNCTION", "SEGMENT", "BEGIN", "USES", END)
-
-
-def no_unit(name):
-    """What is said of a unit that is used."""
-    return (f"there are no units: put the procedures of {name} into this text, or include its file "
-            "by {$I NAME}")
+PARTS = ("LABEL", "CONST", "TYPE", "VAR", "PROCEDUR", "FUNCTION", "SEGMENT", "BEGIN", "USES",
+         "IMPLEMEN", END)
 
 
 class Parser(TypeParser):
-    """The whole parser. Its entries are `program` and `library`."""
+    """The whole parser. Its entries are `program`, `unit` and `library`."""
+
+    is_interface = False  # whether procedures have headings alone
+    used = ()  # the names of the units that are used
 
     def program(self):
         if self.kind == "UNIT":
-            self.refuse("this is a UNIT, and there are none: a text begins with PROGRAM, and its "
-                        "procedures stand in it")
-        self.units = []
+            self.refuse("this is a UNIT, which a program uses: give the text that begins with "
+                        "PROGRAM")
         place = self.want("PROGRAM", " at the beginning").place
         name = self.name()
         if self.take("("):
             self.names()
             self.want(")")
         self.want(";")
+        self.used, units = [], []
+        while self.kind == "UNIT":
+            units.append(self.unit(";"))
         block = self.block()
         self.want(".", " behind the last END")
-        return syntax.Program(place, name, self.units, block)
+        return syntax.Program(place, name, self.used, units, block)
+
+    def unit(self, closing="."):
+        """UNIT NAME; INTERFACE .. IMPLEMENTATION .. [BEGIN ..] END."""
+        around, self.used = self.used, []
+        place = self.want("UNIT", " at the beginning").place
+        name = self.name()
+        self.want(";")
+        if self.kind == "name" and self.now.value == "INTRINSI":  # and the numbers of its segments
+            self.skip_to((";",))
+            self.take(";")
+        self.want("INTERFAC")
+        self.is_interface = True
+        interface = self.declarations()
+        self.is_interface = False
+        self.want("IMPLEMEN", " behind the declarations of an INTERFACE")
+        implementation = self.declarations()
+        body = self.compound() if self.kind == "BEGIN" else self.want("END") and None
+        self.want(closing, " behind the END of a UNIT")
+        used, self.used = self.used, around
+        return syntax.Unit(place, name, used, interface, implementation, body)
 
     def library(self):
         """Declarations alone, as the run-time library has them."""
@@ -72,11 +92,9 @@ class Parser(TypeParser):
                 self.skip_to(PARTS)
 
     def uses(self):
-        """USES NAME, NAME ..: there are no units."""
+        """USES NAME, NAME .."""
         self.next()
-        for name in self.names():
-            self.lack(no_unit(name.written), name.place)
-            self.units.append(name.written)
+        self.used = list(self.used) + self.names()
         self.want(";")
 
     def segment(self):
@@ -154,6 +172,9 @@ class Parser(TypeParser):
             place = self.next().place
             self.lack("there are no external procedures: write it in Pascal", place)
             block = syntax.Block(place, [], syntax.Compound(place, []))
+        elif self.is_interface:
+            return syntax.RoutineDeclaration(name.place, name, is_function, parameters, result,
+                                             None)
         else:
             block = None if self.take("FORWARD") else self.block()
         self.want(";", f" behind {name.written}")

@@ -245,7 +245,18 @@ class Block(Node):
     body: Compound
 
 
+class Unit(Node):
+    """A UNIT. The procedures of its interface have no block there."""
+
+    name: Name
+    uses: List[Name]
+    interface: List[Node]
+    implementation: List[Node]
+    body: Optional[Compound]
+
+
 class Program(Node):
     name: Name
-    units: List[Name]  # that are used, and not there
+    uses: List[Name]
+    units: List[Unit]  # that stand in its text
     block: Block
