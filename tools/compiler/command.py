@@ -7,6 +7,8 @@ import sys
 from pcode.faults import Fault
 from pcode.files import drop_output, write_whole
 
+from volumes.text import decoded, is_text_file
+
 from . import report
 from .parsing.texts import read_text
 from .program import HEAP, LINE_ENDS, Options, Refused, compile_text
@@ -24,7 +26,8 @@ EXAMPLES = """examples:
   compile --where 1 33 hello.pas         after `execution error 10 in procedure 1 at 33`: its line
   compile --asm hello.pas > hello.asm    assembly, which tools/assemble makes the same file of
   compile --line-end cr hello.pas        WRITELN writes 13, as in the p-System, and not 10
-  compile --heap 9000 hello.pas          more room for NEW
+  compile --heap 9000 hello.pas          more room for NEW and for files
+  compile --file DATA=data.txt hello.pas the program finds a file DATA in memory
 
 READ takes 10 and 13 as the end of a line. A fault is told as FILE:LINE:COLUMN: what is wrong, on
 standard error, up to ten of them. What a program needs and is not there is told beside these: all
@@ -35,12 +38,32 @@ written, and an older one stays. 2: other words than these, or an older Python."
 # Nested texts take some recursion; the parser refuses what is nested too deeply.
 RECURSION = 6000
 MOST_HEAP = 16000
+MOST_NAME, MOST_FILE = 15, 32766  # characters of a file's name, and its bytes
 
 
 def heap_of(text):
     if not (text.isascii() and text.isdigit() and len(text) <= 5 and 1 <= int(text) <= MOST_HEAP):
         raise argparse.ArgumentTypeError(f"1 to {MOST_HEAP} words")
     return int(text)
+
+
+def file_of(text):
+    """A name and the bytes of a file."""
+    name, sign, path = text.partition("=")
+    name = name.strip().upper()
+    if not sign or not 1 <= len(name) <= MOST_NAME or not name.isascii():
+        raise argparse.ArgumentTypeError(f"NAME=PATH, with a NAME of 1 to {MOST_NAME} characters")
+    try:
+        with open(path, "rb") as stream:
+            data = stream.read()
+    except OSError as fault:
+        raise argparse.ArgumentTypeError(f"{path} cannot be read: {fault.strerror}") from None
+    if is_text_file(data):
+        data = decoded(data)
+    if len(data) > MOST_FILE:
+        raise argparse.ArgumentTypeError(f"{path} has {len(data)} bytes, and {MOST_FILE} are all "
+                                         "that a machine's memory has")
+    return name, data
 
 
 def number_of(text):
@@ -62,6 +85,11 @@ def words_parser():
                         help=f"room for NEW in words; {HEAP} without")
     parser.add_argument("--no-echo", action="store_true",
                         help="READ does not show what it reads: for a terminal that does so")
+    parser.add_argument("--file", metavar="NAME=PATH", type=file_of, action="append", default=[],
+                        dest="files", help="the program begins with a file NAME in memory that "
+                        "has the bytes of PATH; may be given again")
+    parser.add_argument("--show-files", action="store_true",
+                        help="CLOSE(F, LOCK) prints the file between marks; tools/files reads them")
     modes = parser.add_mutually_exclusive_group()
     modes.add_argument("--check", action="store_true", help="only says what is wrong")
     modes.add_argument("--asm", action="store_true", help="prints the program as assembly")
@@ -86,7 +114,7 @@ def make(words):
         print("\n".join(library()), end="")
         return
     text = read_text(words.file)
-    options = Options(words.line_end, words.heap, not words.no_echo)
+    options = Options(words.line_end, words.heap, not words.no_echo, words.files, words.show_files)
     program = compile_text(text, words.file, options)
     for note in program.notes:
         print(note, file=sys.stderr)

@@ -1,7 +1,7 @@
 """From the text of a program to its code file: the steps of the compiler, one after the other."""
 
 import re
-from typing import List
+from typing import Any, List
 
 from pcode.codefile import code_file
 from pcode.faults import Fault, at
@@ -18,6 +18,7 @@ from .units import APPLESTUFF, Units
 
 LINE_ENDS = {"lf": 10, "cr": 13}
 HEAP = 4000
+MOST_FILES = 10  # of memory that are open at once, and the console and keyboard
 SEGMENT = 1
 
 
@@ -27,6 +28,8 @@ class Options(Fields):
     line_end: str = "lf"  # what WRITELN writes
     heap: int = HEAP  # words for NEW
     is_echoed: bool = True  # READ from INPUT shows what it reads
+    files: List[Any] = list  # pairs of a name and the bytes that a file of memory begins with
+    is_shown: bool = False  # a file that is locked is printed
 
 
 class Compiled(Fields):
@@ -53,6 +56,8 @@ def parsed(text, file, faults, entry=Parser.program):
     parser = Parser(lexer.all(), faults)
     with faults.caught():
         found = entry(parser)
+    if found:
+        found.has_files = parser.has_files()
     for remark in lexer.remarks:
         if found and remark.at >= parser.at:  # behind the last END.
             break
@@ -70,7 +75,9 @@ def parsed_unit(text, file, faults):
 def library_of(checker, options, units=()):
     return Library(checker, {"LINEEND": LINE_ENDS[options.line_end], "HEAPWORDS": options.heap,
                              "ECHOED": 1 if options.is_echoed else 0,
-                             "MIXED": 1 if APPLESTUFF in units else 0})
+                             "MIXED": 1 if APPLESTUFF in units else 0,
+                             "HASFILES": int(checker.has_files), "ISSHOWN": int(options.is_shown),
+                             "MOSTFILES": MOST_FILES if checker.has_files else 2})
 
 
 def checked(text, file, options):
@@ -82,9 +89,11 @@ def checked(text, file, options):
         used = Units(faults, parsed_unit)
         units = used.of_program(program)
         of_form = dict(faults.places)
+        checker.has_files = bool(options.files) or any(
+            it.has_files for it in [program, *units])
         checker.library = library_of(checker, options, used.used)
         with faults.caught():
-            checker.check_program(program, units, used.missing)
+            checker.check_program(program, units, used.missing, options.files)
         faults.places = of_form or faults.places  # those of types are told once there are no others
     if not faults.is_right():
         raise Refused(faults.told())

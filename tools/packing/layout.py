@@ -17,7 +17,7 @@ TOP = manual.TOP
 LIBRARY = "lib/pgroup"
 SCRIPTS = [*manual.SCRIPTS, "console"]
 # The compiler and the assembler: what is called, and the folders that they need.
-COMPILERS = ("assemble", "compile", "volume")
+COMPILERS = ("assemble", "compile", "files", "volume")
 COMPILER_FILES = ("assembler/**/*", "compiler/**/*", "pcode/**/*", "volumes/**/*")
 # The pages and pictures, with all pages that they link to. Their other links, to sources, tests and
 # scripts, lead into the repository alone.

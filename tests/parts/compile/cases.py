@@ -218,7 +218,7 @@ PROCEDURE P(VAR E: TEXT); BEGIN WRITELN(E, 'P', 1:3) END;""",
      "<xxFALSEFALSE>ab\nab5\n5yyzz", ""),
     ("files of other names", "VAR F: TEXT; S: STRING; I: INTEGER;",
      "S := 'DATA.TEXT'; {$I-} RESET(F, S); I := IORESULT; REWRITE(F, '#1:'); WRITE(IORESULT, I); "
-     "{$I+} RESET(F, S); WRITE('X')", "", "02there is no file DATA.TEXT\n", ERROR + " 10"),
+     "{$I+} RESET(F, S); WRITE('X')", "", "010there is no file DATA.TEXT\n", ERROR + " 10"),
     ("a file that is not open", "VAR F: TEXT;",
      "REWRITE(F, '#1:'); WRITE(F, 'A'); CLOSE(F); WRITE(F, 'B')", "", "A", ERROR + " 1"),
     # Units

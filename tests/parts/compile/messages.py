@@ -11,13 +11,11 @@ from compiler.runtime import parts
 # A program that lacks much: each of it is told once, at its first place, with how often it is met.
 LACKING = """PROGRAM OLD(INPUT, OUTPUT);
 USES TURTLEGRAPHICS, APPLESTUFF;
-TYPE LINES = FILE OF CHAR;
-  LINK = RECORD F: FILE; N: INTEGER END;
-VAR F: LINES; G: FILE; L: LINK; N: INTEGER; BIG, MORE: INTEGER[9];
+TYPE LINK = RECORD N: INTEGER END;
+VAR L: LINK; N: INTEGER; BIG, MORE: INTEGER[9];
 PROCEDURE PLOT(X: INTEGER); EXTERNAL;
 BEGIN
   INITTURTLE; PLOT(3);
-  RESET(F, 'DATA'); REWRITE(G, 'OUT'); CLOSE(F); PUT(F);
   BIG := 3; MORE := 4; L.N := 1;
   N := PADDLE(N); N := PADDLE(N);
   PENCOLOR(WHITE); N := RANDOM;
@@ -26,10 +24,9 @@ END.
 """
 LACKS = [
     ("2:6", "there is no TURTLEGRAPHICS, and no pictures", 4),
-    ("3:14", "there are no files", 10),
-    ("5:63", "there are no long integers", 3),
-    ("6:29", "there are no external procedures", 1),
-    ("11:8", "PADDLE: there are no paddles, buttons or sounds", 2),
+    ("4:44", "there are no long integers", 3),
+    ("5:29", "there are no external procedures", 1),
+    ("9:8", "PADDLE: there are no paddles, buttons or sounds", 2),
 ]
 # Texts with one mistake, and the one place that is told, with a part of what is said.
 SINGLE = [
@@ -66,12 +63,12 @@ def try_lacks():
         is_so = line.startswith(f"old.pas:{place}: {part}") and line.endswith(often)
         must(is_so and ("times)" in line) == bool(often), f"{line!r} is not {place} {part} {often}")
     many = "".join(f"V{k} := 1;\n" for k in range(20))
-    told = faults_of("PROGRAM T; VAR F: FILE; BEGIN\n" + many + "CLOSE(F); IDSEARCH(1) END.")
-    is_so = len(told) == 12 and "no files" in told[0] and "IDSEARCH" in told[11]
+    told = faults_of("PROGRAM T; VAR F: INTEGER[9]; BEGIN\n" + many + "IDSEARCH(1) END.")
+    is_so = len(told) == 12 and "no long integers" in told[0] and "IDSEARCH" in told[11]
     must(is_so, f"beside faults: {told}")
-    told = faults_of("PROGRAM T; VAR F: FILE; BEGIN I := ; F := END.")
+    told = faults_of("PROGRAM T; VAR F: INTEGER[9]; BEGIN I := ; F := END.")
     places = [it.split(": ")[0][6:] for it in told]
-    must(places == ["1:19", "1:36", "1:43"], f"faults of form: {told}")
+    must(places == ["1:26", "1:42", "1:49"], f"faults of form: {told}")
     passed("all that a program lacks is told, and how often it is met")
 
 

@@ -92,7 +92,7 @@ STATEMENTS = [
     ("IF I = 1 OR B THEN I := 1", 8, "and a BOOLEAN is wanted here. AND and OR come before"),
     ("B := I < PAY < 3", 14, "put the first one into parentheses"),
     # What is not there
-    ("RESET(I, 'X')", 1, "RESET: there are no files: keep the data in an array"),
+    ("RESET(I, 'X')", 1, "RESET has a file as its first parameter"),
     ("I := TRUNC('A')", 12, "this is a CHAR, and a REAL is wanted here"),
     ("I := 3.14", 6, "this is a REAL, and an INTEGER is wanted here"),
     ("I := TRUNC(32768.0)", 12, "32768 is outside -32768..32767, the INTEGERs"),
@@ -108,7 +108,7 @@ STATEMENTS = [
     ("I := ORD(='A')", 10, "= in front of a value is of SCAN's second parameter alone"),
     ("FILLCHAR(T, 3, B)", 16, "B is a BOOLEAN, and a CHAR is wanted here"),
     ("DISPOSE(I)", 9, "I is an INTEGER, and a pointer is wanted here"),
-    ("GET(OUTPUT)", 1, "GET: there are no files"),
+    ("GET(OUTPUT)", 1, "GET has a file as its first parameter"),
     ("C := OUTPUT^", 12, "OUTPUT is written at once, and has no window"),
     ("{$I #4:X.TEXT} I := 1", 1, "#4:X.TEXT is a file of a p-System's volume"),
     ("{$I gone.pas} I := 1", 1, "gone.pas cannot be read"),
@@ -119,12 +119,19 @@ DECLARATIONS = [
     ("VAR X: SET OF REAL;", 15, "REAL is a REAL, and a range, CHAR, BOOLEAN or a list of names"),
     ("VAR X: 1.5..2;", 8, "this is a REAL, and a number, character or name of a list"),
     ("VAR X: INTEGER[8];", 15, "there are no long integers"),
-    ("VAR F: FILE OF CHAR;", 8, "there are no files: keep the data in an array"),
+    ("VAR F: FILE OF TEXT;", 8, "a file is a variable of its own, and no part of another"),
+    ("VAR F: FILE; BEGIN GET(F) END.", 20, "GET is of a file of records; BLOCKREAD and BLOCKWRITE"),
+    ("VAR F: FILE; BEGIN F^ := 1 END.", 21, "a FILE without a type of records has no window"),
+    ("VAR F: FILE OF INTEGER; BEGIN WRITE(F, 1) END.", 31, "WRITE is of a text, and of no file of"),
+    ("VAR F: TEXT; BEGIN SEEK(F, 1) END.", 20, "SEEK is of a file of records, and of no text"),
+    ("VAR F: FILE OF INTEGER; I: INTEGER; BEGIN I := BLOCKREAD(F, I, 1) END.", 48,
+     "BLOCKREAD is of a FILE without a type of records"),
+    ("VAR F: FILE OF INTEGER; BEGIN F^ := 'A' END.", 37, "this is a CHAR, and an INTEGER"),
     ("VAR F: ARRAY[1..2] OF TEXT;", 8, "a file is a variable of its own"),
     ("TYPE R = RECORD F: TEXT END;", 17, "a file is a variable of its own"),
     ("PROCEDURE P(F: TEXT); BEGIN END;", 13, "a file is a VAR parameter"),
-    ("VAR F: TEXT; PROCEDURE P; BEGIN RESET(F, 'X.TEXT') END;", 42,
-     "RESET of X.TEXT: there are no files"),
+    ("VAR F: TEXT; PROCEDURE P; BEGIN RESET(F, 'X.TEXT', 1) END;", 33, "RESET has a file and a"),
+    ("PROCEDURE P; BEGIN REWRITE(INPUT) END;", 20, "REWRITE opens a variable of the type TEXT or"),
     ("VAR F, G: TEXT; PROCEDURE P; BEGIN F := G END;", 38, "a file is not assigned"),
     ("VAR F: TEXT; PROCEDURE P; BEGIN IF F = F THEN END;", 38, "cannot be compared by ="),
     ("VAR F: TEXT; PROCEDURE P; BEGIN CLOSE(F, KEEP) END;", 33, "CLOSE has a file, and LOCK"),
@@ -166,15 +173,15 @@ TEXTS = [
 ]
 # A text with several faults: each is told once, in order, and one alone of a name.
 SEVERAL = """PROGRAM A;
-VAR X: FILE; I: INTEGER
+VAR X: CHAR; I: INTEGER
 BEGIN
   I := ;
   I = 2;
 END.
 """
-SEVERAL_PLACES = ["2:8", "2:24", "4:8", "5:5"]
+SEVERAL_PLACES = ["2:24", "4:8", "5:5"]
 TYPED = """PROGRAM A;
-VAR X: FILE; I: INTEGER;
+VAR X: GONE; I: INTEGER;
 BEGIN
   X := 1; J := 2; J := 3;
   IF I THEN I := 'A' ELSE Q;

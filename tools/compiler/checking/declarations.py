@@ -50,14 +50,15 @@ class Checker(UnitParts):
         else:
             self.declare(node)
 
-    def check_program(self, program, units=(), missing=None):
+    def check_program(self, program, units=(), missing=None, files=()):
         """The routines of a program and its units, the program itself first. `missing` is the
         feature that names which are not declared are taken for."""
         main = self.main
         main.name, main.place, main.number = program.name.written, program.place, 1
         self.routines = [main]
         self.scopes.units, self.routine = missing, main
-        begin = [self.check_unit(unit) for unit in units]
+        begin = [self.file_made(program, name, data) for name, data in files]
+        begin += [self.check_unit(unit) for unit in units]
         self.scopes.open({program.name.name: main})
         self.open_units(program.uses)
         self.scopes.open()
@@ -71,6 +72,7 @@ class Checker(UnitParts):
             self.declare(declaration)
         self.refuse_missing(self.scopes.scopes[-1])
         routine.body = self.statement(block.body)
+        routine.endings = self.endings(routine)
         self.check_labels()
         self.routine = around
 
@@ -116,7 +118,10 @@ class Checker(UnitParts):
         is_late = self.is_library and self.routine is self.main  # its offset comes with its use
         for name in node.names:
             offset = 0 if is_late else self.routine.allocate(kind.size, name.place)
-            self.scopes.declare(name, Variable(kind, self.routine, offset))
+            variable = Variable(kind, self.routine, offset)
+            if isinstance(kind, File) and self.routine.level:
+                self.routine.files.append(variable)
+            self.scopes.declare(name, variable)
 
     # Procedures and functions
 

@@ -5,8 +5,8 @@ from ..parsing import syntax
 from .context import Context, kind_of
 from .layout import Layout
 from .symbols import ConstantSymbol, TypeSymbol
-from .types import (MOST_ELEMENT, MOST_WORDS, WORD, Array, File, Ordinal, Pointer, Record, Set,
-                    String)
+from .types import (CHAR, MOST_ELEMENT, MOST_WORDS, WORD, Array, File, Ordinal, Pointer, Record,
+                    Set, String)
 
 
 class TypeMaker(Context):
@@ -22,7 +22,7 @@ class TypeMaker(Context):
             syntax.Enumeration: self.enumeration, syntax.Subrange: self.subrange,
             syntax.ArrayType: self.array_type, syntax.RecordType: self.record_type,
             syntax.SetType: self.set_type, syntax.PointerType: self.pointer_type,
-            syntax.AbsentType: self.absent_type,
+            syntax.AbsentType: self.absent_type, syntax.FileType: self.file_type,
         }
         return makers[type(node)](node)
 
@@ -113,6 +113,12 @@ class TypeMaker(Context):
         if name.name in fields:
             self.refuse(f"the record has a field {name.written} already", name.place)
         fields[name.name] = layout.put(kind)
+
+    def file_type(self, node):
+        """FILE OF CHAR is TEXT."""
+        element = self.type_of(node.element) if node.element else None
+        self.refuse_file(element, node.place)
+        return File(None, True) if element is CHAR else File(element)
 
     def set_type(self, node):
         base = self.type_of(node.base)

@@ -2,21 +2,22 @@
 
 from ..parsing import syntax
 from . import tree
-from .calls import Calls
 from .context import low_bit, number
+from .files import Files
 from .locations import is_packed
 from .real_values import FUNCTIONS
 from .symbols import FileSymbol, Routine, TypeSymbol, Variable
 from .types import BOOLEAN, CHAR, INTEGER, REAL, Pointer, String, is_ordinal, wrap
 
 
-class StandardFunctions(Calls):
+class StandardFunctions(Files):
     def standard_function(self, name, node):
         makers = {
             "ABS": self.abs_or_square, "SQR": self.abs_or_square, "CHR": self.chr, "ODD": self.odd,
             "ORD": self.ord, "SUCC": self.neighbour, "PRED": self.neighbour,
             "LENGTH": self.length, "POS": self.pos, "CONCAT": self.concat, "COPY": self.copy,
-            "EOLN": self.end_of, "EOF": self.end_of, "IORESULT": self.ioresult,
+            "EOLN": self.end_of, "EOF": self.end_of, "BLOCKREAD": self.blocks,
+            "BLOCKWRITE": self.blocks, "IORESULT": self.ioresult,
             "MEMAVAIL": self.memavail, "SIZEOF": self.sizeof, "ADDRESS": self.address,
             "KEYPRESS": self.keypress, "RANDOM": self.random, "SCAN": self.scan,
             "UNITBUSY": self.unitbusy, "TRUNC": self.whole,
@@ -91,20 +92,10 @@ class StandardFunctions(Calls):
         kind = String(max(1, longest(text)))
         return tree.Copied(kind, text, self.integer(at), self.integer(count))
 
-    def file_of(self, arguments):
-        """The file that is the first argument, or None; and the other arguments."""
-        file = self.file_named(arguments[0].value) if arguments else None
-        return (file, arguments[1:]) if file else (None, arguments)
-
-    def end_of(self, name, node):
-        file, rest = self.file_of(node.arguments)
-        if rest or file == "OUTPUT":
-            self.refuse(f"{name} asks for the end of INPUT or KEYBOARD", node.place)
-        return self.call_library("ATEOLN" if name == "EOLN" else "ATEOF", self.number_of(file))
-
     def ioresult(self, _name, node):
         self.take(node, 0)
-        return tree.Operation(INTEGER, ("CSP", 34), [])
+        machines = tree.Operation(INTEGER, ("CSP", 34), [])
+        return self.call_library("IOOUTCOME", machines) if self.has_files else machines
 
     def unitbusy(self, _name, node):
         """No unit is ever busy."""

@@ -9,6 +9,8 @@ from .types import CHAR, INTEGER, REAL, Array, String
 
 
 class InputOutput(StandardProcedures):
+    destination = None  # the file that WRITE writes to; None for the console
+
     def write(self, name, node):
         """WRITE(VALUE, VALUE:WIDTH ..): texts that follow one another are written at once."""
         file, items = self.file_of(node.arguments)
@@ -16,20 +18,46 @@ class InputOutput(StandardProcedures):
             self.refuse(f"{file} is read, and not written", node.place)
         if name == "WRITE" and not items:
             self.refuse("WRITE has something to write", node.place)
-        statements, text = self.is_open(node, file), ""
+        is_file = file is not None and not isinstance(file, str)
+        if is_file:
+            self.refuse_text(name, node, file, True)
+        statements, text, self.destination = [], "", file if is_file else None
         for item in items:
             known = self.known_text(item)
             if known is not None:
                 text += known
                 continue
-            statements += self.text_written(node, text) + [self.item_written(node, item)]
+            statements += self.text_written(node, text) + self.item_written_to(node, item)
             text = ""
         if name == "WRITELN":
             text += chr(self.line_end)
-        return tree.Block(statements + self.text_written(node, text))
+        statements += self.text_written(node, text)
+        if is_file:
+            statements = [self.begun(node), *statements, *self.ended(node)]
+        return tree.Block(statements)
+
+    def selected(self, file):
+        return tree.Select(self.library["OUTFILE"], self.number_of(file) if file else number(0))
 
     def text_written(self, node, text):
-        return [tree.WriteText(node.place, text)] if text else []
+        if not text:
+            return []
+        written = tree.WriteText(node.place, text)
+        if not self.destination:
+            return [written]
+        return [tree.Perform(node.place, self.selected(self.destination)), written,
+                tree.Perform(node.place, self.selected(None))]
+
+    def item_written_to(self, node, item):
+        """A value that is written, to a file if there is one: that is selected once all is worked
+        out, since a function may write too."""
+        file, self.destination = self.destination, None
+        written = self.item_written(node, item)
+        self.destination = file
+        if not file:
+            return [written]
+        written.value.arguments.append(self.selected(file))
+        return [written, tree.Perform(node.place, self.selected(None))]
 
     def known_text(self, item):
         """What an item is to write, if that is known here."""
@@ -79,6 +107,8 @@ class InputOutput(StandardProcedures):
             self.refuse("OUTPUT is written, and not read", node.place)
         if name == "READ" and not items:
             self.refuse("READ has a variable to read", node.place)
+        if file is not None and not isinstance(file, str):
+            self.refuse_text(name, node, file, True)
         unit = self.number_of(file)
         statements = [self.item_read(node, item, unit) for item in items]
         if name == "READLN":

@@ -68,9 +68,16 @@ class Locations(TypeMaker):
         """FILE^: the character that was read last."""
         if file == "OUTPUT":
             self.refuse("OUTPUT is written at once, and has no window: take WRITE", node.place)
+        if not isinstance(file, str) and not file.type.is_text:
+            if not file.type.element:
+                self.refuse("a FILE without a type of records has no window", node.place)
+            return self.element_of(file)
         windows = self.library["WINDOW"]
         whole = tree.VariableAt(windows.type, windows)
-        return tree.ElementAt(CHAR, whole, self.number_of(file))
+        number_of = self.number_of(file)
+        if self.has_files:
+            number_of = self.call_library("PEEKED", number_of)
+        return tree.ElementAt(CHAR, whole, number_of)
 
     def target(self, node):
         file = self.file_named(node.base)

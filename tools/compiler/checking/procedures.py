@@ -1,17 +1,13 @@
 """Checks the procedures of the language, but for READ and WRITE."""
 
-from ..faults import Lack
 from ..parsing import syntax
-from ..parsing.types import FILES
 from . import tree
 from .context import number
 from .functions import StandardFunctions
-from .symbols import READ_FILES, Routine
+from .symbols import Routine
 from .types import BOOLEAN, CHAR, INTEGER, Pointer, String, is_ordinal
 
 UNITREAD, UNITWRITE, HALT, IOCHECK = 5, 6, 39, 0
-DEVICES = ("CONSOLE:", "SYSTERM:", "PRINTER:", "REMOUT:", "#1:", "#2:", "#6:", "#8:")
-CLOSINGS = {"LOCK", "NORMAL", "PURGE", "CRUNCH"}
 
 
 class StandardProcedures(StandardFunctions):
@@ -19,22 +15,20 @@ class StandardProcedures(StandardFunctions):
         makers = {
             "CLOSE": self.close, "DELETE": self.delete, "DISPOSE": self.dispose,
             "EXIT": self.exit,
-            "FILLCHAR": self.fillchar, "GET": self.get, "GOTOXY": self.gotoxy, "HALT": self.halt,
+            "FILLCHAR": self.fillchar, "GET": self.get_or_put, "GOTOXY": self.gotoxy,
+            "HALT": self.halt,
             "INSERT": self.insert, "MARK": self.mark, "MOVELEFT": self.move,
             "MOVERIGHT": self.move, "NEW": self.new, "PAGE": self.page,
-            "READ": self.read, "READLN": self.read, "RELEASE": self.release, "RESET": self.get,
+            "READ": self.read, "READLN": self.read, "RELEASE": self.release, "RESET": self.open,
             "NOTE": self.note, "RANDOMIZE": self.randomize, "TIME": self.time,
-            "REWRITE": self.rewrite, "STR": self.str, "UNITCLEAR": self.unit_alone,
+            "REWRITE": self.open, "PUT": self.get_or_put, "SEEK": self.seek, "STR": self.str,
+            "UNITCLEAR": self.unit_alone,
             "UNITREAD": self.transfer, "UNITWAIT": self.unit_alone, "UNITWRITE": self.transfer,
             "WRITE": self.write, "WRITELN": self.write,
         }
         if name not in makers:
             self.refuse(f"{name} is a function: its value goes nowhere", node.place)
         return makers[name](name, node)
-
-    def perform(self, node, name, *arguments):
-        """A call of a procedure of the library."""
-        return tree.Perform(node.place, self.call_library(name, *arguments))
 
     # Strings
 
@@ -80,6 +74,8 @@ class StandardProcedures(StandardFunctions):
         values += [self.integer(it) for it in rest] + [number(0)] * (2 - len(rest))
         number_of = UNITREAD if name == "UNITREAD" else UNITWRITE
         done = tree.Transfer(node.place, number_of, values)
+        if self.has_files and not self.is_library:
+            done = tree.Block([self.begun(node), done])
         if not node.place.is_io_checked:
             return done
         return tree.Block([done, self.instruction(node, "CSP", IOCHECK)])
@@ -109,55 +105,6 @@ class StandardProcedures(StandardFunctions):
         if location.type is not INTEGER:
             self.refuse_type(node, location.type, "an INTEGER")
         return location
-
-    def get(self, name, node):
-        """GET(FILE) and RESET(FILE), of what is read from the console."""
-        file, rest = self.file_of(node.arguments)
-        if not file or file == "OUTPUT":
-            raise Lack(f"{name}: {FILES}", node.place, FILES)
-        if name == "GET":
-            if rest:
-                self.refuse_count(node.name, "1", len(node.arguments))
-            return self.perform(node, "NEXTKEY", self.number_of(file))
-        if not rest:
-            return self.perform(node, "RESETFILE", self.number_of(file))
-        opened = self.opened(name, node, file, rest)  # it may not be open, under I-
-        return tree.Block(opened + [self.perform(node, "RESETFILE", tree.Load(INTEGER, file))])
-
-    def rewrite(self, name, node):
-        """REWRITE(FILE, NAME); of OUTPUT, or of a file that is open, nothing."""
-        file, rest = self.file_of(node.arguments)
-        if not file or file in READ_FILES:
-            raise Lack(f"{name}: {FILES}", node.place, FILES)
-        return tree.Block(self.opened(name, node, file, rest) if rest else self.is_open(node, file))
-
-    def opened(self, name, node, file, rest):
-        """Opens a file on a device by its name."""
-        if isinstance(file, str) or len(rest) > 1:
-            self.refuse(f"{name} has a variable of the type TEXT, and a name", node.place)
-        text = self.string(rest[0].value)
-        if isinstance(text, tree.TextValue) and text.text.upper() not in DEVICES:
-            raise Lack(f"{name} of {text.text[:24]}: {FILES}; CONSOLE:, SYSTERM:, PRINTER: and "
-                       "REMOUT: are the console", rest[0].value.place, FILES)
-        is_checked = tree.Constant(BOOLEAN, 1 if node.place.is_io_checked else 0)
-        fresh = self.call_library("OPENFILE", tree.StringAddress(text), is_checked)
-        return [tree.Assign(node.place, file, fresh)]
-
-    def is_open(self, node, file):
-        """What looks whether a file is open that is to be written."""
-        if file is None or isinstance(file, str):
-            return []
-        return [self.perform(node, "IGNORE", self.number_of(file))]
-
-    def close(self, name, node):
-        """CLOSE(FILE [, LOCK]), or another word for what becomes of it."""
-        file, rest = self.file_of(node.arguments)
-        words = [it.value.name for it in rest if isinstance(it.value, syntax.Name)]
-        if not file or len(words) != len(rest) or not CLOSINGS.issuperset(words):
-            self.refuse(f"{name} has a file, and LOCK, NORMAL, PURGE or CRUNCH", node.place)
-        if isinstance(file, str):
-            return tree.Block([])
-        return tree.Assign(node.place, file, number(0))
 
     def instruction(self, node, *instruction):
         return tree.Perform(node.place, tree.Operation(None, instruction, []))
@@ -223,4 +170,6 @@ class StandardProcedures(StandardFunctions):
         file, rest = self.file_of(node.arguments)
         if rest or file == "INPUT":
             self.refuse("PAGE has the file OUTPUT, or none", node.place)
-        return tree.Block(self.is_open(node, file) + [self.perform(node, "CLEARSCREEN")])
+        if file is None or isinstance(file, str):
+            return self.perform(node, "CLEARSCREEN")
+        return self.perform(node, "PAGEFILE", self.number_of(file))

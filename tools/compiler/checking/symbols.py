@@ -6,19 +6,18 @@ from pcode.faults import Fault
 from pcode.fields import Fields
 
 from ..faults import Known, Lack, Place
-from ..parsing.types import FILES
 from .types import BOOLEAN, CHAR, INTEGER, MOST_WORDS, REAL, File, Pointer, String
 
 STANDARD_PROCEDURES = (
     "CLOSE DELETE DISPOSE EXIT FILLCHAR GET GOTOXY HALT INSERT MARK MOVELEFT MOVERIGHT NEW "
-    "PAGE READ READLN RELEASE RESET REWRITE STR TIME UNITCLEAR UNITREAD UNITWAIT UNITWRITE WRITE "
-    "WRITELN").split()
+    "PAGE PUT READ READLN RELEASE RESET REWRITE SEEK STR TIME UNITCLEAR UNITREAD UNITWAIT "
+    "UNITWRITE WRITE WRITELN").split()
 STANDARD_FUNCTIONS = (
-    "ABS ARCTAN ATAN CHR CONCAT COPY COS EOF EOLN EXP IORESULT LENGTH LN LOG MEMAVAIL ODD ORD POS "
-    "PRED PWROFTEN ROUND SCAN SIN SIZEOF SQR SQRT SUCC TRUNC UNITBUSY"
+    "ABS ARCTAN ATAN BLOCKREAD BLOCKWRITE CHR CONCAT COPY COS EOF EOLN EXP IORESULT LENGTH LN LOG "
+    "MEMAVAIL ODD ORD POS PRED PWROFTEN ROUND SCAN SIN SIZEOF SQR SQRT SUCC TRUNC UNITBUSY"
 ).split()
 READ_FILES = {"INPUT": 1, "KEYBOARD": 2}  # with their numbers in the library
-TEXT = File()
+TEXT = File(is_text=True)
 STANDARD_FILES = ("INPUT", "OUTPUT", "KEYBOARD")
 
 
@@ -99,6 +98,8 @@ class Routine(Fields):
     parameter_words: int = 0
     copies: List[Copy] = list
     labels: Dict[int, Any] = dict  # declared, set, or where it is used
+    files: List[Any] = list  # variables that are closed at its end
+    endings: List[Any] = list  # what is done then
     body: Any = None  # the checked tree
 
     def allocate(self, words, place) -> int:
@@ -171,7 +172,6 @@ def hint_of(name):
 
 
 ABSENT = {
-    FILES: "PUT SEEK BLOCKREAD BLOCKWRITE",
     "there are no paddles, buttons or sounds": "PADDLE BUTTON TTLOUT",
     "it is of the p-System's own programs": "IDSEARCH TREESEARCH UNITSTATUS MEMLOCK MEMSWAP",
 }

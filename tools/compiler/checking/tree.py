@@ -109,6 +109,14 @@ class StringAddress(Fields):
     value: Any
 
 
+class Select(Fields):
+    """Behind the arguments of a call: what it writes goes to a file, whose number this is. It
+    pushes nothing."""
+
+    variable: Any
+    number: Any
+
+
 class SetAddress(Fields):
     """The address of a set of so many words."""
 
@@ -149,6 +157,13 @@ class FieldAt(Fields):
     type: Any
     base: Any
     field: Any
+
+
+class WindowAt(Fields):
+    """The window of a file: the words behind its number."""
+
+    type: Any
+    base: Any
 
 
 class Opening(Fields):

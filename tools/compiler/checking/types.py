@@ -125,12 +125,15 @@ class Pointer:
 
 
 class File:
-    """TEXT or INTERACTIVE: a word, which is 0 or the number of the file in the library."""
+    """TEXT, FILE OF an element or FILE: a word, which is 0 or the number of the file in the
+    library, and the element that is the file's window."""
 
-    size = 1
+    def __init__(self, element=None, is_text=False):
+        self.element, self.is_text = element, is_text
+        self.size = 1 + (element.size if element else 0)
 
     def __str__(self):
-        return "TEXT"
+        return "TEXT" if self.is_text else f"FILE OF {self.element}" if self.element else "FILE"
 
 
 class Real:
@@ -180,6 +183,10 @@ def is_same(left, right):
         return left.most == right.most
     if isinstance(left, Set):
         return left.size == right.size and left.base.host is right.base.host
+    if isinstance(left, File):
+        return left.is_text == right.is_text and (
+            left.element is right.element
+            or bool(left.element and right.element) and is_same(left.element, right.element))
     return is_pointed(left, right) if isinstance(left, Pointer) else False
 
 

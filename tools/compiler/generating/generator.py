@@ -31,6 +31,8 @@ class RoutineGenerator(Statements):
                 self.copy_parameter(copy)
         self.statement(routine.body)
         code.set("exit")
+        for ending in routine.endings:
+            self.statement(ending)
         self.end_exit()
         code.emit("RNP" if routine.level else "RBP", routine.result.size if routine.result else 0)
         if self.most > MOST_WORDS:

@@ -46,6 +46,7 @@ class Places:
             tree.VariableAt: self.variable_place, tree.Opened: self.opened_place,
             tree.Target: self.target_place, tree.FieldAt: self.field_place,
             tree.ElementAt: self.element_place, tree.CharacterAt: self.character_place,
+            tree.WindowAt: lambda it: self.place(it.base).moved(1),
         }
         return makers[type(location)](location)
 

@@ -27,6 +27,7 @@ class Values(Places):
             tree.StringAddress: lambda it: self.string(it.value),
             tree.SetAddress: lambda it: self.set_address(it.value, it.words),
             tree.TextValue: lambda it: self.text(words_of(it.text)),
+            tree.Select: self.select,
         }
         makers[type(node)](node)
 
@@ -46,6 +47,10 @@ class Values(Places):
             self.push(operand)
         if node.instruction:
             self.code.emit(*node.instruction)
+
+    def select(self, node):
+        self.push(node.number)
+        self.store(Frame(node.variable.routine, self.offset_of(node.variable)))
 
     def text(self, words):
         """Words that are known: they are put into a temporary, and its address is pushed."""

@@ -6,15 +6,21 @@
   asks for it, so EOLN is true only once the line's end itself has been read. }
 {$R-}
 VAR
-  WINDOW: ARRAY[1..2] OF CHAR;           { what was read last; a line's end is ' ' }
+  WINDOW: ARRAY[1..MOSTFILES] OF CHAR;   { what was read last; a line's end is ' ' }
   ISFULL,                                { it has not been taken }
-  ISEOLN, ISEOF: ARRAY[1..2] OF BOOLEAN;
+  ISEOLN, ISEOF: ARRAY[1..MOSTFILES] OF BOOLEAN;
   KEYSREAD: INTEGER;                     { a sum of all keys, for RANDOMIZE }
 
 PROCEDURE NEXTKEY(F: INTEGER);
 VAR
   C: CHAR;
 BEGIN
+  IF HASFILES = 1 THEN
+    IF F > 2 THEN
+      BEGIN
+        NEXTBYTE(F);
+        EXIT(NEXTKEY)
+      END;
   IF NOT ISEOF[F] THEN
     BEGIN
       UNITREAD(2, C, 1);
@@ -54,46 +60,9 @@ BEGIN
     END
 END;
 
-{ The file that a name means: 1 for the console, 2 for SYSTERM:, which shows
-  nothing. IORESULT is 2 if it means none, and under I+ that is said }
-FUNCTION OPENFILE(VAR S: BYTES; ISCHECKED: BOOLEAN): INTEGER;
-VAR
-  N: STRING[9];
-  C: CHAR;
-  I: INTEGER;
-BEGIN
-  N := '';
-  FOR I := 1 TO ORD(S[0]) DO
-    IF I < 10 THEN
-      BEGIN
-        N[I] := S[I];
-        IF (S[I] >= 'a') AND (S[I] <= 'z') THEN N[I] := CHR(ORD(S[I]) - 32);
-        N[0] := CHR(I)
-      END;
-  UNITWRITE(1, C, 0);
-  IF (N = 'SYSTERM:') OR (N = '#2:') THEN OPENFILE := 2
-  ELSE IF (N = 'CONSOLE:') OR (N = 'PRINTER:') OR (N = 'REMOUT:') OR (N = '#1:')
-    OR (N = '#6:') OR (N = '#8:') THEN OPENFILE := 1
-  ELSE
-    BEGIN
-      OPENFILE := 0;
-      IF ISCHECKED THEN
-        BEGIN
-          WRITE('there is no file ');
-          WRITEPART(S, 1, ORD(S[0]), 0);
-          PUTCHAR(CHR(LINEEND));
-          UNITWRITE(9, C, 1)               { error 10: files are devices alone }
-        END
-      ELSE
-        BEGIN
-          {$I-} UNITWRITE(9, C, 1) {$I+}
-        END
-    END
-END;
-
 FUNCTION OPENED(F: INTEGER): INTEGER;    { F, if it is the number of a file }
 VAR
-  NUMBER: 1..2;
+  NUMBER: 1..MOSTFILES;
 BEGIN
   {$R+} NUMBER := F; {$R-}               { error 1: the file is not open }
   OPENED := F
@@ -101,16 +70,19 @@ END;
 
 FUNCTION ATEOLN(F: INTEGER): BOOLEAN;
 BEGIN
+  IF HASFILES = 1 THEN F := PEEKED(F);
   ATEOLN := ISEOLN[F]
 END;
 
 FUNCTION ATEOF(F: INTEGER): BOOLEAN;
 BEGIN
+  IF HASFILES = 1 THEN F := PEEKED(F);
   ATEOF := ISEOF[F]
 END;
 
 PROCEDURE ENDLINE(F: INTEGER);           { goes behind the line's end }
 BEGIN
+  IF HASFILES = 1 THEN F := PEEKED(F);
   WHILE NOT ISEOLN[F] DO NEXTKEY(F);
   ISFULL[F] := FALSE;
   ISEOLN[F] := ISEOF[F]

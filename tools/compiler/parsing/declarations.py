@@ -9,6 +9,8 @@ from .types import TypeParser
 PARTS = ("LABEL", "CONST", "TYPE", "VAR", "PROCEDUR", "FUNCTION", "SEGMENT", "BEGIN", "USES",
          "IMPLEMEN", END)
 
+OPENINGS, OPEN = {"RESET", "REWRITE"}, {"INPUT", "KEYBOARD", "OUTPUT"}
+
 
 class Parser(TypeParser):
     """The whole parser. Its entries are `program`, `unit` and `library`."""
@@ -52,6 +54,13 @@ class Parser(TypeParser):
         self.want(closing, " behind the END of a UNIT")
         used, self.used = self.used, around
         return syntax.Unit(place, name, used, interface, implementation, body)
+
+    def has_files(self):
+        """Whether the text has files of its own, which the library is told of."""
+        rows = zip(self.tokens, self.tokens[1:], self.tokens[2:])
+        return any(token.kind == "FILE" or token.kind == "name" and token.value in OPENINGS
+                   and bracket.kind == "(" and name.value not in OPEN
+                   for token, bracket, name in rows)
 
     def library(self):
         """Declarations alone, as the run-time library has them."""

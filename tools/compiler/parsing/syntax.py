@@ -189,6 +189,12 @@ class SetType(Node):
     base: Node
 
 
+class FileType(Node):
+    """FILE OF ELEMENT; without one FILE, of blocks."""
+
+    element: Any
+
+
 class PointerType(Node):
     target: Name
 
@@ -253,6 +259,7 @@ class Unit(Node):
     interface: List[Node]
     implementation: List[Node]
     body: Optional[Compound]
+    has_files: bool = False
 
 
 class Program(Node):
@@ -260,3 +267,4 @@ class Program(Node):
     uses: List[Name]
     units: List[Unit]  # that stand in its text
     block: Block
+    has_files: bool = False

@@ -3,7 +3,6 @@
 from . import syntax
 from .statements import StatementParser
 
-FILES = "there are no files: keep the data in an array, or read it from the console"
 LONG = "long integers"
 
 
@@ -24,10 +23,7 @@ class TypeParser(StatementParser):
             self.want("OF")
             return syntax.SetType(place, self.simple_type())
         if self.take("FILE"):
-            self.lack(FILES, place)
-            if self.take("OF"):
-                self.type()
-            return syntax.AbsentType(place, FILES)
+            return syntax.FileType(place, self.type() if self.take("OF") else None)
         if is_packed:
             self.refuse(f"ARRAY, RECORD or SET is wanted behind PACKED, and not {self.now}")
         if self.take("^"):
