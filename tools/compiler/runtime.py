@@ -14,7 +14,7 @@ from .parsing.texts import read_text
 
 FOLDER = os.path.join(os.path.dirname(os.path.abspath(__file__)), "library")
 FILES = ("blocks", "output", "input", "strings", "sets", "heap", "reals", "decimals", "transcend",
-         "chance", "files", "directory")
+         "chance", "files", "directory", "longs")
 # A procedure begins and ends at the first column of a line, and no other word END does.
 ROUTINE = re.compile(r"^(?:PROCEDURE|FUNCTION) (\w+).*?^END;", re.M | re.S)
 

@@ -12,11 +12,11 @@ from compiler.runtime import parts
 LACKING = """PROGRAM OLD(INPUT, OUTPUT);
 USES TURTLEGRAPHICS, APPLESTUFF;
 TYPE LINK = RECORD N: INTEGER END;
-VAR L: LINK; N: INTEGER; BIG, MORE: INTEGER[9];
+VAR L: LINK; N: INTEGER;
 PROCEDURE PLOT(X: INTEGER); EXTERNAL;
 BEGIN
   INITTURTLE; PLOT(3);
-  BIG := 3; MORE := 4; L.N := 1;
+  L.N := 1;
   N := PADDLE(N); N := PADDLE(N);
   PENCOLOR(WHITE); N := RANDOM;
   MOVETO(N, N)
@@ -24,7 +24,6 @@ END.
 """
 LACKS = [
     ("2:6", "there is no TURTLEGRAPHICS, and no pictures", 4),
-    ("4:44", "there are no long integers", 3),
     ("5:29", "there are no external procedures", 1),
     ("9:8", "PADDLE: there are no paddles, buttons or sounds", 2),
 ]
@@ -63,12 +62,12 @@ def try_lacks():
         is_so = line.startswith(f"old.pas:{place}: {part}") and line.endswith(often)
         must(is_so and ("times)" in line) == bool(often), f"{line!r} is not {place} {part} {often}")
     many = "".join(f"V{k} := 1;\n" for k in range(20))
-    told = faults_of("PROGRAM T; VAR F: INTEGER[9]; BEGIN\n" + many + "IDSEARCH(1) END.")
-    is_so = len(told) == 12 and "no long integers" in told[0] and "IDSEARCH" in told[11]
+    told = faults_of("PROGRAM T; PROCEDURE F; EXTERNAL; BEGIN\n" + many + "IDSEARCH(1) END.")
+    is_so = len(told) == 12 and "no external" in told[0] and "IDSEARCH" in told[11]
     must(is_so, f"beside faults: {told}")
-    told = faults_of("PROGRAM T; VAR F: INTEGER[9]; BEGIN I := ; F := END.")
+    told = faults_of("PROGRAM T; PROCEDURE F; EXTERNAL; BEGIN I := ; F := END.")
     places = [it.split(": ")[0][6:] for it in told]
-    must(places == ["1:26", "1:42", "1:49"], f"faults of form: {told}")
+    must(places == ["1:25", "1:46", "1:53"], f"faults of form: {told}")
     passed("all that a program lacks is told, and how often it is met")
 
 

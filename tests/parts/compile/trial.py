@@ -10,7 +10,7 @@ import sys
 from ..checks import passed
 from ..files import bytes_of
 from ..program import PROGRAM, TOP, must
-from . import file_cases, limits, real_cases
+from . import file_cases, limits, longs, real_cases
 from .cases import CASES as OTHERS
 from .programs import BY_HAND, PROGRAMS
 from .refusals import (DECLARATIONS, DECLARED, LINE, SEVERAL, SEVERAL_PLACES, STATEMENTS, TEXTS,
@@ -19,7 +19,7 @@ from .judging import (TOOL, Options, Refused, compile_text, faults_of, prints, r
                       write)
 from assembler import command as assembler
 
-CASES = OTHERS + real_cases.CASES + file_cases.CASES
+CASES = OTHERS + real_cases.CASES + file_cases.CASES + longs.CASES
 EXAMPLES = os.path.join(TOP, "examples")
 # What is put into a text in a wrong place.
 BITS = ("STRING SET ^ NIL 0 32768 - [ ] VAR FORWARD; RECORD '' 1.5 WITH IN EXIT(PROGRAM) BEGIN "

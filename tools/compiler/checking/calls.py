@@ -3,7 +3,7 @@
 from . import tree
 from .locations import is_packed, is_word
 from .sets import Sets
-from .types import REAL, Set, String, is_ordinal, is_same, with_article
+from .types import REAL, Long, Set, String, is_ordinal, is_same, with_article
 
 
 class Calls(Sets):
@@ -56,6 +56,8 @@ class Calls(Sets):
             return self.fitted(value, wanted, node, node.place.is_checked)
         if wanted is REAL:
             return self.real(value, node)
+        if isinstance(wanted, Long):
+            return self.long_given(self.long(value, node), wanted)
         if isinstance(wanted, String):
             return tree.StringAddress(self.string(node))
         if isinstance(wanted, Set):
@@ -68,6 +70,12 @@ class Calls(Sets):
         if not is_same(value.type, wanted) or not isinstance(value, tree.Load):
             self.refuse_type(node, value.type, with_article(wanted))
         return tree.Address(value.location)
+
+    def long_given(self, value, wanted):
+        """The address of a long integer for a value parameter."""
+        if isinstance(value, tree.Load) and value.type.most == wanted.most:
+            return tree.Address(value.location)
+        return tree.LongFitted(self.library["NARROW"], value, wanted)
 
     def is_fitting_text(self, value, wanted):
         """Whether a value is a text in quotes for an array of so many characters."""

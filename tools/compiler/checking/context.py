@@ -9,7 +9,7 @@ from . import tree
 from .symbols import (ConstantSymbol, FileSymbol, OpenedField, Routine, Standard, TypeSymbol,
                       Variable)
 from .reals import SIGN, real_of_text
-from .types import BOOLEAN, INTEGER, REAL, is_ordinal, with_article
+from .types import BOOLEAN, INTEGER, REAL, Long, is_ordinal, with_article
 
 KINDS = {ConstantSymbol: "a constant", TypeSymbol: "a type", Variable: "a variable",
          OpenedField: "a field", Standard: "a standard procedure", FileSymbol: "a file"}
@@ -43,7 +43,11 @@ class Context:
     def need(self, node, kind, wanted):
         """Refuses a value of another host than is wanted."""
         if not is_ordinal(kind, wanted):
+            is_literal = isinstance(node, (syntax.Number, syntax.LongNumber))
+            if is_literal and isinstance(kind, Long):
+                self.refuse(f"{node.value} is above 32767, the greatest INTEGER", node.place)
             hint = ": TRUNC or ROUND makes one" if kind is REAL and wanted is INTEGER else ""
+            hint = ": TRUNC makes one" if isinstance(kind, Long) and wanted is INTEGER else hint
             self.refuse_type(node, kind, with_article(wanted), hint)
 
     def constant(self, node):
@@ -54,6 +58,9 @@ class Context:
             if node.value > 32767:
                 self.refuse("32768 is above 32767, the greatest INTEGER", node.place)
             return ConstantSymbol(INTEGER, node.value)
+        if isinstance(node, syntax.LongNumber):
+            self.refuse(f"{node.value} is above 32767, the greatest INTEGER: a long integer is no "
+                        "constant of a name, a range or CASE", node.place)
         if isinstance(node, syntax.Real):
             bits = real_of_text(node.written)
             if bits is None:

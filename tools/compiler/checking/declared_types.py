@@ -5,8 +5,8 @@ from ..parsing import syntax
 from .context import Context, kind_of
 from .layout import Layout
 from .symbols import ConstantSymbol, TypeSymbol
-from .types import (CHAR, MOST_ELEMENT, MOST_WORDS, WORD, Array, File, Ordinal, Pointer, Record,
-                    Set, String)
+from .types import (CHAR, MOST_DIGITS, MOST_ELEMENT, MOST_WORDS, WORD, Array, File, Long, Ordinal,
+                    Pointer, Record, Set, String)
 
 
 class TypeMaker(Context):
@@ -22,6 +22,7 @@ class TypeMaker(Context):
             syntax.Enumeration: self.enumeration, syntax.Subrange: self.subrange,
             syntax.ArrayType: self.array_type, syntax.RecordType: self.record_type,
             syntax.SetType: self.set_type, syntax.PointerType: self.pointer_type,
+            syntax.LongType: self.long_type,
             syntax.AbsentType: self.absent_type, syntax.FileType: self.file_type,
         }
         return makers[type(node)](node)
@@ -42,6 +43,13 @@ class TypeMaker(Context):
             self.refuse(f"a STRING has room for 1 to 255 characters, and not {symbol.value}",
                         node.length.place)
         return String(symbol.value)
+
+    def long_type(self, node):
+        symbol = self.ordinal_constant(node.length)
+        if not 1 <= symbol.value <= MOST_DIGITS:
+            self.refuse(f"a long integer has 1 to {MOST_DIGITS} digits, and not {symbol.value}",
+                        node.length.place)
+        return Long(symbol.value)
 
     def enumeration(self, node):
         kind = Ordinal(None, 0, len(node.names) - 1)

@@ -5,7 +5,7 @@ from . import tree
 from .context import number
 from .locations import is_word
 from .procedures import StandardProcedures
-from .types import CHAR, INTEGER, REAL, Array, String
+from .types import CHAR, INTEGER, LONG, REAL, Array, Long, String
 
 
 class InputOutput(StandardProcedures):
@@ -82,6 +82,8 @@ class InputOutput(StandardProcedures):
     def item_written(self, node, item):
         value = self.value(item.value)
         width = self.integer(item.width) if item.width else number(0)
+        if isinstance(value.type, Long) and not item.places:
+            return self.perform(node, "WRITELONG", tree.LongAddress(value), width)
         if value.type is REAL:
             places = self.integer(item.places) if item.places else number(-1)
             return self.perform(node, "WRITEREAL", value, width, places)
@@ -121,6 +123,8 @@ class InputOutput(StandardProcedures):
         kind = location.type
         if isinstance(kind, String):
             return self.perform(node, "READSTR", unit, tree.Address(location), number(kind.most))
+        if isinstance(kind, Long):
+            return self.long_assigned(node.place, location, tree.LongRead(LONG, unit))
         if kind is REAL:
             return tree.Assign(node.place, location, self.call_library("READREAL", unit))
         host = getattr(kind, "host", None)

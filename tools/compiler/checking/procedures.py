@@ -4,6 +4,7 @@ from ..parsing import syntax
 from . import tree
 from .context import number
 from .functions import StandardFunctions
+from .long_values import is_long
 from .symbols import Routine
 from .types import BOOLEAN, CHAR, INTEGER, Pointer, String, is_ordinal
 
@@ -50,8 +51,12 @@ class StandardProcedures(StandardFunctions):
     def str(self, _name, node):
         value, text = self.take(node, 2)
         location = self.string_variable(text)
-        most = number(location.type.most)
-        return self.perform(node, "DIGITS", self.integer(value), tree.Address(location), most)
+        most, number_given = number(location.type.most), self.value(value)
+        if is_long(number_given):
+            return self.perform(node, "STRLONG", tree.LongAddress(number_given),
+                                tree.Address(location), most)
+        self.need(value, number_given.type, INTEGER)
+        return self.perform(node, "DIGITS", number_given, tree.Address(location), most)
 
     # Bytes
 

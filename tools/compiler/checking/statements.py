@@ -6,7 +6,7 @@ from .context import kind_of, low_bit
 from .input_output import InputOutput
 from .locations import is_word
 from .symbols import OpenedField, Routine, Standard, Variable
-from .types import REAL, File, Record, Set, String, is_ordinal, with_article
+from .types import REAL, File, Long, Record, Set, String, is_ordinal, with_article
 
 
 def has_same_room(text, location):
@@ -48,6 +48,8 @@ class Statements(InputOutput):
         if is_word(kind):
             value = self.fitted(value, kind, node.value, node.place.is_checked)
             return tree.Assign(node.place, location, value)
+        if isinstance(kind, Long):
+            return self.long_assigned(node.place, location, self.long(value, node.value))
         if kind is REAL:
             return tree.Assign(node.place, location, self.real(value, node.value))
         if isinstance(kind, String):

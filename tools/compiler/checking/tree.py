@@ -25,6 +25,41 @@ class RealValue(Fields):
     value: int
 
 
+class LongValue(Fields):
+    """A long integer that is known."""
+
+    type: Any
+    value: int
+
+
+class LongOf(Fields):
+    """An INTEGER as a long integer."""
+
+    type: Any
+    value: Any
+
+
+class LongRead(Fields):
+    """A long integer that READ takes from a file of this number."""
+
+    type: Any
+    file: Any
+
+
+class LongNegative(Fields):
+    type: Any
+    value: Any
+
+
+class LongOperation(Fields):
+    """`routine` of the library changes the left long integer by the right one."""
+
+    type: Any
+    routine: Any
+    left: Any
+    right: Any
+
+
 class TextValue(Fields):
     """A text in quotes."""
 
@@ -109,12 +144,26 @@ class StringAddress(Fields):
     value: Any
 
 
+class LongFitted(Fields):
+    """The address of a long integer in a room of its own of a type; `routine` puts it there."""
+
+    routine: Any
+    value: Any
+    kind: Any
+
+
 class Select(Fields):
     """Behind the arguments of a call: what it writes goes to a file, whose number this is. It
     pushes nothing."""
 
     variable: Any
     number: Any
+
+
+class LongAddress(Fields):
+    """The address of a long integer of all digits."""
+
+    value: Any
 
 
 class SetAddress(Fields):

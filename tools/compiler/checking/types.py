@@ -146,6 +146,20 @@ class Real:
 
 
 REAL = Real()
+MOST_DIGITS = 36  # of a long integer
+
+
+class Long:
+    """INTEGER[most]: a word with the sign, and words with two decimal digits each."""
+
+    def __init__(self, most):
+        self.most, self.size = most, 1 + (most + 1) // 2
+
+    def __str__(self):
+        return f"INTEGER[{self.most}]"
+
+
+LONG = Long(MOST_DIGITS)  # what is worked out has this type
 
 
 class TextType(Fields):
@@ -179,7 +193,7 @@ def is_same(left, right):
         return (left.index.host is right.index.host and left.index.low == right.index.low
                 and left.count == right.count and left.is_packed == right.is_packed
                 and is_same(left.element, right.element))
-    if isinstance(left, String):
+    if isinstance(left, (String, Long)):
         return left.most == right.most
     if isinstance(left, Set):
         return left.size == right.size and left.base.host is right.base.host

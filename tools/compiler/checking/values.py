@@ -7,7 +7,7 @@ from ..parsing.expressions import PARENTHESES
 from . import tree
 from .context import kind_of, low_bit, number
 from .locations import is_text_literal, is_word, literal_text
-from .real_values import RealValues
+from .long_values import LongValues, is_long
 from .symbols import ConstantSymbol, FileSymbol, OpenedField, Routine, Standard, Variable
 from .types import (BOOLEAN, CHAR, INTEGER, REAL, Array, File, Pointer, Set, String, TextType,
                     is_ordinal, is_same, with_article, wrap)
@@ -34,11 +34,12 @@ COMPARED = {"=": operator.eq, "<>": operator.ne, "<": operator.lt, "<=": operato
             ">": operator.gt, ">=": operator.ge}
 
 
-class Values(RealValues):
+class Values(LongValues):
     def value(self, node):
         """The checked tree of an expression."""
         makers = {
             syntax.Number: self.number, syntax.Text: lambda it: self.text(it.value),
+            syntax.LongNumber: self.long_number,
             syntax.Real: lambda it: tree.RealValue(REAL, self.constant(it).value),
             syntax.Name: self.named, syntax.Call: self.call_value,
             syntax.Operation: self.operation, syntax.Unary: self.unary, syntax.SetOf: self.set_of,
@@ -51,7 +52,9 @@ class Values(RealValues):
         return tree.Load(location.type, location)
 
     def number(self, node):
-        return tree.Constant(INTEGER, self.constant(node).value)
+        if node.value > 32767:
+            return self.long_number(node)
+        return tree.Constant(INTEGER, node.value)
 
     def text(self, text):
         """A text in quotes: of one character a CHAR."""
@@ -115,6 +118,8 @@ class Values(RealValues):
         value = self.value(node.operand)
         if value.type is REAL:
             return value if node.operator == "+" else self.negative(value)
+        if is_long(value):
+            return value if node.operator == "+" else self.negative_long(value)
         self.need(node.operand, value.type, INTEGER)
         if node.operator == "+":
             return value
@@ -138,6 +143,8 @@ class Values(RealValues):
             return tree.Operation(BOOLEAN, (BITWISE[node.operator],), [left, right])
         if node.operator in "+-*" and isinstance(left.type, Set) and isinstance(right.type, Set):
             return self.set_operation(node, left, right)
+        if is_long(left) or is_long(right):
+            return self.long_operation(node, left, right)
         if node.operator == "/" or REAL in (left.type, right.type):
             return self.real_operation(node, left, right)
         return self.arithmetic(node, left, right)
@@ -164,6 +171,9 @@ class Values(RealValues):
             return self.compared(node, left, right)
         if isinstance(left.type, Set) and isinstance(right.type, Set):
             return self.compared_sets(node, left, right)
+        if is_long(left) or is_long(right):
+            order = self.order_of_longs(node, left, right)
+            return self.compared_words(node, order, number(0))
         if REAL in (left.type, right.type):
             order = self.order_of_reals(node, left, right)
             return self.compared_words(node, order, number(0))

@@ -1,6 +1,7 @@
 """Strings and sets, which have several words."""
 
 from ..checking import tree
+from ..checking.types import LONG
 from .values import Values, words_of
 
 
@@ -83,3 +84,56 @@ class Blocks(Values):
             self.push(high)
             self.code.number(16 * words - 1)
             self.call_library("INCLUDE")
+
+    # Long integers
+
+    def long_address(self, value):
+        """Pushes the address of a long integer of all digits."""
+        room = self.temporary(LONG.size)
+        self.make_long(value, room)
+        self.push_address(room)
+
+    def make_long(self, value, room):
+        """Makes a long integer in a temporary."""
+        if isinstance(value, tree.LongOperation):
+            self.make_long(value.left, room)
+            self.push_address(room)
+            self.long_address(value.right)
+            self.enter(value.routine)
+        elif isinstance(value, tree.LongNegative):
+            self.make_long(value.value, room)
+            self.push_address(room)
+            self.call_library("NEGATELO")
+        elif isinstance(value, tree.LongRead):
+            self.push(value.file)
+            self.push_address(room)
+            self.call_library("READLONG")
+        else:
+            self.make_simple(value, room)
+
+    def make_simple(self, value, room):
+        if isinstance(value, tree.LongValue) and not -32768 <= value.value <= 32767:
+            size = abs(value.value)
+            digits = [size // 100 ** k % 100 for k in range(LONG.size - 1)]
+            self.store_words(room, [65535 * (value.value < 0)] + digits)
+            return
+        self.push_address(room)
+        if isinstance(value, tree.LongValue):
+            self.code.number(value.value)
+            self.call_library("LONGOF")
+        elif isinstance(value, tree.LongOf):
+            self.push(value.value)
+            self.call_library("LONGOF")
+        else:
+            self.push_address(self.place(value.location))
+            self.code.number(value.type.size - 1)
+            self.call_library("WIDEN")
+
+    def long_fitted(self, node):
+        room = self.temporary(node.kind.size)
+        self.push_address(room)
+        self.long_address(node.value)
+        self.code.number(node.kind.size - 1)
+        self.code.number(9 if node.kind.most % 2 else 99)
+        self.enter(node.routine)
+        self.push_address(room)

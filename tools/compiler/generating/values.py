@@ -27,7 +27,8 @@ class Values(Places):
             tree.StringAddress: lambda it: self.string(it.value),
             tree.SetAddress: lambda it: self.set_address(it.value, it.words),
             tree.TextValue: lambda it: self.text(words_of(it.text)),
-            tree.Select: self.select,
+            tree.Select: self.select, tree.LongAddress: lambda it: self.long_address(it.value),
+            tree.LongFitted: self.long_fitted,
         }
         makers[type(node)](node)
 

@@ -50,6 +50,9 @@ class ExpressionParser(Reader):
         if token.kind == "number":
             self.next()
             return syntax.Number(token.place, token.value)
+        if token.kind == "long":
+            self.next()
+            return syntax.LongNumber(token.place, token.value)
         if token.kind == "real":
             self.next()
             return syntax.Real(token.place, token.value)
@@ -135,7 +138,7 @@ class ExpressionParser(Reader):
         """A number, a character or text in quotes, or a name, with a sign."""
         sign = self.next() if self.kind in ("+", "-") else None
         token = self.now
-        if token.kind not in ("number", "real", "text", "name"):
+        if token.kind not in ("number", "long", "real", "text", "name"):
             self.refuse(f"a constant is wanted, and not {token}")
         value = self.name() if token.kind == "name" else self.factor()
         return syntax.Unary(sign.place, sign.kind, value) if sign else value

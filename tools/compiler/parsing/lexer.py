@@ -26,7 +26,7 @@ TOKEN = re.compile(r"""
   | (?P<symbol> := | <> | <= | >= | \.\. | \(\. | \.\) | [-+*/=<>()\[\],;:.^] )
 """, re.VERBOSE)
 BRACKETS = {"(.": "[", ".)": "]"}
-DIGITS = 5  # of the greatest number
+MOST_DIGITS = 36  # of a long integer
 MOST_INCLUDED = 20
 MOST_TEXT = 255
 
@@ -42,7 +42,7 @@ CONDITION = re.compile(r"(IFDEF|IFNDEF|IFOPT|IF|ELSE|ELSEIF|ENDIF|IFEND|DEFINE|U
 
 
 class Token(NamedTuple):
-    """`kind` is name, number, real, text, or the keyword or symbol itself."""
+    """`kind` is name, number, long, real, text, or the keyword or symbol itself."""
 
     kind: str
     written: str
@@ -137,11 +137,11 @@ class Lexer:
             self.put(name if name in KEYWORDS else "name", written, name)
         elif group == "number":
             digits = written.lstrip("0") or "0"
-            if len(digits) > DIGITS or int(digits) > 32768:
-                self.put("number", written, 0)
-                raise Fault(f"{written[:12]} is above 32767, the greatest INTEGER; there are no "
-                            "long integers", self.place())
-            self.put("number", written, int(digits))
+            if len(digits) > MOST_DIGITS:
+                self.put("long", written, 0)
+                raise Fault(f"a number has at most {MOST_DIGITS} digits", self.place())
+            is_long = int(digits) > 32768
+            self.put("long" if is_long else "number", written, int(digits))
         elif group == "real":
             self.put("real", written, written)
         elif group == "text":

@@ -8,7 +8,7 @@ from .lexer import BAD, END
 
 # How deeply parentheses, statements and types may be nested. Real programs have some ten.
 MOST_NESTED = 100
-SHOWN = {"name": "a name", "number": "a number", "real": "a REAL", END: END,
+SHOWN = {"name": "a name", "number": "a number", "real": "a REAL", "long": "a number", END: END,
          "INTERFAC": "INTERFACE", "IMPLEMEN": "IMPLEMENTATION"}
 
 

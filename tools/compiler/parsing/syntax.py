@@ -20,6 +20,18 @@ class Number(Node):
     value: int
 
 
+class LongNumber(Node):
+    """A number that is no INTEGER."""
+
+    value: int
+
+
+class LongType(Node):
+    """INTEGER[LENGTH]."""
+
+    length: Node
+
+
 class Real(Node):
     written: str
 

@@ -3,7 +3,6 @@
 from . import syntax
 from .statements import StatementParser
 
-LONG = "long integers"
 
 
 class TypeParser(StatementParser):
@@ -51,7 +50,7 @@ class TypeParser(StatementParser):
             names = self.names()
             self.want(")")
             return syntax.Enumeration(place, names)
-        if self.kind not in ("name", "number", "real", "text", "+", "-"):
+        if self.kind not in ("name", "number", "long", "real", "text", "+", "-"):
             self.refuse(f"a type is wanted, and not {self.now}")
         low = self.constant()
         if self.take(".."):
@@ -62,17 +61,13 @@ class TypeParser(StatementParser):
 
     def sized(self, name):
         """NAME[N]."""
-        if name.name == "INTEGER":
-            self.lack("there are no long integers: INTEGER has 16 bits. Take two of them, or the "
-                      "digits as characters", self.place, LONG)
-        elif name.name != "STRING":
-            self.refuse(f"{name.written} has no length: STRING has one")
+        kinds = {"INTEGER": syntax.LongType, "STRING": syntax.StringType}
+        if name.name not in kinds:
+            self.refuse(f"{name.written} has no length: STRING and INTEGER have one")
         self.next()
         length = self.constant()
         self.want("]")
-        if name.name == "INTEGER":
-            return syntax.AbsentType(name.place, LONG)
-        return syntax.StringType(name.place, length)
+        return kinds[name.name](name.place, length)
 
     def field_list(self):
         place, groups = self.place, []
