@@ -15,8 +15,13 @@ from .parsing.texts import read_text
 FOLDER = os.path.join(os.path.dirname(os.path.abspath(__file__)), "library")
 FILES = ("blocks", "output", "input", "strings", "sets", "heap", "reals", "decimals", "transcend",
          "chance", "files", "directory", "longs")
-# A procedure begins and ends at the first column of a line, and no other word END does.
-ROUTINE = re.compile(r"^(?:PROCEDURE|FUNCTION) (\w+).*?^END;", re.M | re.S)
+# A procedure begins at the first column of a line, as nothing else does with these words, and ends
+# with an END; there.
+ROUTINE = re.compile(r"^(?:PROCEDURE|FUNCTION) (\w+)", re.M)
+END = "\nEND;"
+COMMENT, NAME = re.compile(r"\{[^}]*\}"), re.compile(r"[A-Z]\w*")
+# What begins a declaration of constants, types or variables.
+DECLARED = re.compile(r"^ *((?:[A-Z]\w*,\s*)*[A-Z]\w*) *[:=]", re.M)
 
 
 class Part(NamedTuple):
@@ -31,41 +36,74 @@ def path_of(name):
     return os.path.join(FOLDER, f"{name}.pas")
 
 
+def parted(text, file):
+    """A file of the library without its procedures, and these by their names."""
+    rest, routines, at, line = [], {}, 0, 1
+    for found in ROUTINE.finditer(text):
+        end = text.index(END, found.start()) + len(END)
+        between = text[at:found.start()]
+        line += between.count("\n")
+        routine = text[found.start():end]
+        routines[fold(found[1])] = Part(file, line, routine)
+        lines = routine.count("\n")
+        rest += [between, "\n" * lines]
+        at, line = end, line + lines
+    rest.append(text[at:])
+    return Part(file, 1, "".join(rest)), routines
+
+
 @lru_cache(maxsize=None)
 def parts():
-    """The declarations of each file, without its procedures; and all procedures by their names."""
-    rests, routines = [], {}
-    for name in FILES:
+    """The declarations of each file, without its procedures; the numbers of the files in whose
+    declarations a name is declared; and all procedures by their names, with their files."""
+    rests, places, routines = [], {}, {}
+    for number, name in enumerate(FILES):
         path = path_of(name)
-        text = read_text(path)
-        for found in ROUTINE.finditer(text):
-            line = text.count("\n", 0, found.start()) + 1
-            routines[fold(found[1])] = Part(path, line, found[0])
-        rest = ROUTINE.sub(lambda it: "\n" * it[0].count("\n"), text)
-        rests.append(Part(path, 1, rest))
-    return rests, routines
+        rest, own = parted(read_text(path), path)
+        rests.append(rest)
+        routines.update((it, (number, part)) for it, part in own.items())
+        for names in DECLARED.findall(COMMENT.sub("", rest.text)):
+            for it in NAME.findall(names):
+                places.setdefault(fold(it), []).append(number)
+    return rests, places, routines
 
 
 class Library:
     """The symbols of the library by their names: a scope, and what the compiler calls. A procedure
-    is declared where it is asked for first, and its body is checked by `complete`."""
+    is declared where it is asked for first, and what stands in front of the procedures of a file
+    with the first of its names. A procedure's body is checked by `complete`."""
 
     def __init__(self, checker, constants):
         self.checker = checker
         self.symbols = {fold(name): ConstantSymbol(INTEGER, it) for name, it in constants.items()}
         self.symbols.update((name, Standard(name)) for name in ("ADDRESS", "REALOF"))
         self.blocks = {}  # of each routine the one that waits to be checked
-        rests, routines = parts()
+        rests, self.places, routines = parts()
+        self.rests = dict(enumerate(rests))  # that are not declared
         self.routines = dict(routines)  # that nobody has asked for
-        for part in rests:
-            self.declare(part)
+
+    def prepare(self, name):
+        """Declares what a name may need."""
+        for number in self.places.get(name, ()):
+            self.declare_rest(number)
+
+    def declare_rest(self, number):
+        if number in self.rests:
+            self.declare(self.rests.pop(number))
 
     def __contains__(self, name):
-        return name in self.symbols or name in self.routines
+        if name in self.symbols or name in self.routines:
+            return True
+        self.prepare(name)
+        return name in self.symbols
 
     def __getitem__(self, name):
         if name in self.routines:
-            self.declare(self.routines.pop(name))
+            number, part = self.routines.pop(name)
+            self.declare_rest(number)
+            self.declare(part)
+        elif name not in self.symbols:
+            self.prepare(name)
         return self.symbols[name]
 
     def __setitem__(self, name, symbol):

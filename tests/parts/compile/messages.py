@@ -84,7 +84,7 @@ def try_library():
     """Each procedure of the run-time library has no fault, also where no program uses it."""
     checker = Checker(Faults(), 10)
     checker.library = library_of(checker, Options())
-    names = sorted(parts()[1])
+    names = sorted(parts()[2])
     for name in names:
         checker.library.complete(checker.library[name])
     bodies = [checker.library[name].body for name in names]

@@ -1,5 +1,6 @@
 """What names mean, and where they are looked for."""
 
+from functools import lru_cache
 from typing import Any, Dict, List, Optional
 
 from pcode.faults import Fault
@@ -112,8 +113,9 @@ class Routine(Fields):
         return offset
 
 
+@lru_cache(maxsize=None)
 def standard_scope():
-    """What is known without a declaration."""
+    """What is known without a declaration. Nothing is ever added to it."""
     scope = {"INTEGER": TypeSymbol(INTEGER), "BOOLEAN": TypeSymbol(BOOLEAN),
              "TEXT": TypeSymbol(TEXT), "INTERACT": TypeSymbol(TEXT),
              "CHAR": TypeSymbol(CHAR), "REAL": TypeSymbol(REAL), "STRING": TypeSymbol(String(80)),

@@ -17,16 +17,27 @@ def nodes_of(node):
             waiting.extend(it.fields())
 
 
+def found_in(routines):
+    """For each routine the ones that it calls, and those that it names by EXIT."""
+    calls, exits = {}, {}
+    for routine in routines:
+        calls[routine], exits[routine] = set(), set()
+        for node in nodes_of(routine.body):
+            if isinstance(node, tree.Call):
+                calls[routine].add(node.routine)
+            elif isinstance(node, tree.Exit):
+                exits[routine].add(node.routine)
+    return calls, exits
+
+
 def exits_of(routines):
     """For each routine the other ones that a call of it may end: what it and its callees name by
-    EXIT, without itself."""
-    callees, exits = {}, {}
+    EXIT, without itself; and what the EXITs in its callees name, itself among them."""
+    calls, exits = found_in(routines)
+    callees = {routine: calls[routine] & set(routines) for routine in routines}
     for routine in routines:
-        found = list(nodes_of(routine.body))
-        callees[routine] = {it.routine for it in found if isinstance(it, tree.Call)}
-        callees[routine] &= set(routines)
-        exits[routine] = {it.routine for it in found if isinstance(it, tree.Exit)} - {routine}
-    is_growing = True
+        exits[routine] -= {routine}
+    is_growing = any(exits.values())
     while is_growing:
         is_growing = False
         for routine in routines:
@@ -35,13 +46,6 @@ def exits_of(routines):
             if more:
                 exits[routine] |= more
                 is_growing = True
-    return exits
-
-
-def asked_of(routines, exits):
-    """For each routine what the EXITs in its callees name, itself among them."""
-    asked = {}
-    for routine in routines:
-        called = {it.routine for it in nodes_of(routine.body) if isinstance(it, tree.Call)}
-        asked[routine] = set().union(*(exits.get(callee, set()) for callee in called))
-    return asked
+    asked = {routine: set().union(*(exits.get(callee, set()) for callee in calls[routine]))
+             for routine in routines}
+    return exits, asked

@@ -5,7 +5,7 @@ from pcode.parts import Procedure
 
 from ..checking.types import MOST_WORDS, String
 from .code import Code
-from .exits import asked_of, exits_of
+from .exits import exits_of
 from .far import spread
 from .places import Frame
 from .statements import Statements
@@ -82,8 +82,7 @@ class Generator:
         self.routines, self.library = list(routines), library
         self.main = routines[0]
         self.waiting = []  # routines of the library that are called, and not made yet
-        self.exits = exits_of(self.routines)
-        self.asked = asked_of(self.routines, self.exits)
+        self.exits, self.asked = exits_of(self.routines)
 
     def procedures(self):
         """The procedures, in the order of their numbers."""
