@@ -211,6 +211,9 @@ class Parser(TypeParser):
         found = []
         while True:
             place, is_var = self.place, bool(self.take("VAR"))
+            if self.kind in ("PROCEDUR", "FUNCTION"):
+                self.refuse("UCSD Pascal had no procedures as parameters: take a number, and a "
+                            "CASE that calls them")
             names = self.names()
             self.want(":", " behind the names of parameters")
             if self.kind in ("ARRAY", "PACKED"):
