@@ -27,7 +27,8 @@ PAGES = (
 )
 # The examples that need nothing else of the repository.
 EXAMPLES = (
-    "*.code", "*.pas", "*.lst", "README.md", "assembly/*", "terminal/*", "group/*.script",
+    "*.code", "*.pas", "*.lst", "README.md", "assembly/*", "terminal/*", "old/*",
+    "group/*.script",
 )
 
 
