@@ -221,6 +221,23 @@ PROCEDURE P(VAR E: TEXT); BEGIN WRITELN(E, 'P', 1:3) END;""",
      "{$I+} RESET(F, S); WRITE('X')", "", "010there is no file DATA.TEXT\n", ERROR + " 10"),
     ("a file that is not open", "VAR F: TEXT;",
      "REWRITE(F, '#1:'); WRITE(F, 'A'); CLOSE(F); WRITE(F, 'B')", "", "A", ERROR + " 1"),
+    # What is done by words
+    ("one element more or less", """TYPE T = SET OF 0..20; VAR S: T; I, N: INTEGER; B: SET OF BOOLEAN;
+PROCEDURE P(VAR X: T; I: INTEGER); BEGIN X := X + [I]; X := X - [I - 1] END;
+FUNCTION F: INTEGER; BEGIN S := []; F := 3 END;""",
+     "S := []; FOR I := 0 TO 20 DO IF ODD(I) THEN S := S + [I]; I := 5; S := S - [I]; P(S, 8); "
+     "S := S - [I + 4]; FOR I := 0 TO 20 DO IF I IN S THEN WRITE(I, ' '); S := [7]; S := S + [F]; "
+     "WRITE(7 IN S, 3 IN S); B := []; B := B + [NOT ODD(N)]; WRITE(TRUE IN B, FALSE IN B)",
+     "", "1 3 8 11 13 15 17 19 TRUETRUETRUEFALSE", ""),
+    ("error 1: an element that a set has not", "VAR S: SET OF 0..20; I: INTEGER;",
+     "S := []; I := 31; S := S + [I]; WRITE(I IN S); I := 32; S := S + [I]", "", "TRUE",
+     ERROR + " 1"),
+    ("strings are equal up to their ends", STRINGS + "V: STRING[4]; W: STRING[3];",
+     "FOR I := 0 TO 5 DO BEGIN S := COPY('ABCDE', 1, I); T := COPY('ABCDEF', 1, I); "
+     "WRITE(S = T, S <> T, ' '); IF I > 0 THEN BEGIN {$R-} T[I + 1] := 'X'; {$R+} WRITE(S = T); "
+     "T[I] := '.'; WRITE(S = T, ' ') END END; V := 'ABC'; W := V; WRITE(V = W, W = 'ABC', "
+     "'ABD' = V, V = 'ABCD'); W := ''; V := W; WRITE(V = '', LENGTH(V))", "",
+     "TRUEFALSE " + "TRUEFALSE TRUEFALSE " * 5 + "TRUETRUEFALSEFALSETRUE0", ""),
     # Units
     ("UNITREAD and UNITWRITE", "VAR A: PACKED ARRAY[0..3] OF CHAR; N: INTEGER;",
      "UNITREAD(1, A, 2); UNITREAD(2, A[2], 2, , 0); UNITWRITE(1, A[1], 3); "

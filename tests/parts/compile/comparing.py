@@ -3,12 +3,14 @@
 import collections
 import json
 import os
+import random
 import sys
 
 from compiler.program import Options, Refused, compile_text
 
-from . import free_pascal, limits
+from . import file_cases, free_pascal, limits, longs, real_cases, reals
 from .cases import CASES
+from .random_files import random_file_program
 from .random_programs import random_program
 
 # Faults of a program that are known to a compiler: what the program would have done is not tried.
@@ -64,12 +66,43 @@ def compare(room, running, first, count, differing):
     print(f"of {count} random programs none differs: {told}")
 
 
+def folder_with(room, name, text, others):
+    """A folder with a program and its units."""
+    folder = os.path.join(room, name)
+    os.makedirs(folder, exist_ok=True)
+    for unit, unit_text in others.items():
+        write(folder, f"{unit.lower()}.pas", unit_text.encode())
+    return folder, write(folder, "random.pas", text.encode())
+
+
+def compare_files(room, running, first, count, differing):
+    """The same of programs with REALs, files and a unit; all of them end by themselves."""
+    os.chdir(room)  # where Free Pascal's programs make their files
+    for seed in range(first, first + count):
+        program = random_file_program(seed)
+        _, path = folder_with(room, "ucsd", program.ucsd, program.others)
+        data = compile_text(program.ucsd, path, Options(is_echoed=False)).data
+        given = program.given.encode()
+        found = free_pascal.run_code(running(write(room, "random.code", data)), given)
+        folder, _ = folder_with(room, "free", program.free, program.free_others)
+        wanted = free_pascal.run_free(free_pascal.built(folder, "random", "-B"), given)
+        if found != wanted or found[1] != "normal":
+            print(program.ucsd, *program.others.values(), sep="\n", file=sys.stderr)
+            differing(f"the program {seed}, which is above", program.given, found, wanted)
+    print(f"of {count} random programs with REALs, files and a unit none differs")
+
+
 def told_programs(room, running, seed):
     """Two files of programs with what comes of them: those of tests/compile, and random ones."""
     cases = [{"name": name, "text": f"PROGRAM T;\n{declarations}\nBEGIN\n{statements}\nEND.\n",
               "given": given, "output": output, "is_echoed": True,
               "ending": ending.replace("execution ", "") or "normal"}
-             for name, declarations, statements, given, output, ending in CASES]
+             for name, declarations, statements, given, output, ending in
+             CASES + real_cases.CASES + file_cases.CASES + longs.CASES]
+    asked, lines = reals.operations(random.Random(1), TOLD)
+    cases.append({"name": "operations with REALs", "text": reals.PROGRAM, "given": asked,
+                  "output": "".join(f"{line}\n" for line in lines), "is_echoed": False,
+                  "ending": "normal"})
     cases += [{"name": name, "text": text, "given": given, "output": output, "is_echoed": True,
                "ending": "normal"} for name, text, given, output in limits.accepted()]
     some = [{"name": f"program {number}", "text": program.ucsd, "given": program.given,

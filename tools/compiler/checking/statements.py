@@ -2,11 +2,11 @@
 
 from ..parsing import syntax
 from . import tree
-from .context import kind_of, low_bit
+from .context import kind_of, low_bit, number
 from .input_output import InputOutput
 from .locations import is_word
 from .symbols import OpenedField, Routine, Standard, Variable
-from .types import REAL, File, Long, Record, Set, String, is_ordinal, with_article
+from .types import BOOLEAN, REAL, WORD, File, Long, Record, Set, String, is_ordinal, with_article
 
 
 def has_same_room(text, location):
@@ -15,6 +15,27 @@ def has_same_room(text, location):
     places = [text.location, location] if isinstance(text, tree.Load) else []
     return bool(places) and text.type.most == location.type.most and not any(
         isinstance(it, tree.VariableAt) and it.variable.is_address for it in places)
+
+
+def is_calm(value):
+    """Whether a value calls nothing: variables, numbers, and what is made of these."""
+    if isinstance(value, tree.Operation):
+        return all(map(is_calm, value.operands))
+    if isinstance(value, tree.Load):
+        return isinstance(value.location, tree.VariableAt)
+    return isinstance(value, tree.Constant)
+
+
+def is_one_more(node, value):
+    """Whether a set variable gets itself and one element more or less, which is not known."""
+    target, source = node.target, node.value
+    if not isinstance(value, tree.SetOperation) or not isinstance(value.right, tree.SetValue):
+        return False
+    is_itself = (isinstance(target, syntax.Name) and isinstance(source.left, syntax.Name)
+                 and target.name == source.left.name and source.operator in ("+", "-"))
+    parts = value.right.parts
+    return (is_itself and len(parts) == 1 and parts[0][1] is None
+            and not isinstance(parts[0][0], tree.Constant) and is_calm(parts[0][0]))
 
 
 class Statements(InputOutput):
@@ -60,10 +81,21 @@ class Statements(InputOutput):
             return self.perform(node, "ASSIGN", tree.Address(location), source, most)
         if isinstance(kind, Set) and not isinstance(value.type, Set):
             self.refuse_type(node.value, value.type, with_article(kind))
+        if is_one_more(node, value):
+            return self.one_element(node, value, location)
         source = self.block_or_word(value, kind, node.value)
         if isinstance(source, tree.TextValue):
             return tree.StoreText(node.place, location, source.text)
         return tree.MoveWords(node.place, location, source, kind.size)
+
+    def one_element(self, node, value, location):
+        """S := S + [X] and S := S - [X]."""
+        self.need_set(node.value, value, location.type)
+        (element, _), = value.right.parts
+        last = number(WORD * location.type.size - 1)
+        where = tree.Address(location)
+        is_in = tree.Constant(BOOLEAN, int(node.value.operator == "+"))
+        return self.perform(node, "PUTELEMENT", where, element, last, is_in)
 
     def assigned(self, node):
         """The location of an assignment: a variable, or the value of the function around it."""

@@ -178,6 +178,10 @@ class Values(LongValues):
             order = self.order_of_reals(node, left, right)
             return self.compared_words(node, order, number(0))
         if self.is_string(left) and self.is_string(right):
+            if is_equality:
+                same = self.call_library("SAMETEXT", tree.StringAddress(as_text(left)),
+                                         tree.StringAddress(as_text(right)))
+                return negated_if(node.operator == "<>", same)
             order = self.call_library("COMPARE", tree.StringAddress(as_text(left)),
                                       tree.StringAddress(as_text(right)))
             return self.compared(node, order, number(0))
@@ -212,7 +216,7 @@ class Values(LongValues):
                         f"compared by {node.operator}", node.place)
         same = self.call_library("SAMEWORDS", tree.Address(left.location),
                                  tree.Address(right.location), number(left.type.size))
-        return same if node.operator == "=" else tree.Operation(BOOLEAN, ("LNOT",), [same])
+        return negated_if(node.operator == "<>", same)
 
     def characters_of(self, value):
         """How many characters an array or a text in quotes has; None for all else."""
@@ -240,6 +244,11 @@ class Values(LongValues):
     def ordered(self, node):
         """A value that counts as a number: of a Boolean the lowest bit."""
         return low_bit(self.ordinal(node))
+
+
+def negated_if(is_so, value):
+    """NOT of a Boolean, or the Boolean itself."""
+    return tree.Operation(BOOLEAN, ("LNOT",), [value]) if is_so else value
 
 
 def as_text(value):

@@ -42,6 +42,15 @@ BEGIN
   IF (X < 0) OR (X > LAST) THEN HAS := FALSE ELSE HAS := S[X]
 END;
 
+{ With the element A, or without it; an execution error as of INCLUDE }
+PROCEDURE PUTELEMENT(VAR S: BITS; A, LAST: INTEGER; ISIN: BOOLEAN);
+VAR
+  LEFT: 0..MAXINT;
+BEGIN
+  {$R+} LEFT := A; LEFT := LAST - A; {$R-}   { error 1: the set has no such element }
+  S[A] := ISIN
+END;
+
 { All elements from A to B; an execution error if one is below 0 or above LAST }
 PROCEDURE INCLUDE(VAR S: BITS; A, B, LAST: INTEGER);
 VAR

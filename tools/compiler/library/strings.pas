@@ -2,14 +2,44 @@
   has no room, or lies outside, is left as it is, as UCSD Pascal has it; only
   an assignment that has no room is an execution error. }
 {$R-}
-PROCEDURE ASSIGN(VAR D, S: BYTES; M: INTEGER);   { D has room for M characters }
+PROCEDURE ASSIGN(VAR D, S: WORDS; M: INTEGER);   { D has room for M characters }
 VAR
   I, N: INTEGER;
   LEFT: 0..255;
 BEGIN
-  N := ORD(S[0]);
+  N := ORD(ODD(S[0]) AND ODD(255));
   {$R+} LEFT := M - N; {$R-}             { error 1: the STRING has no room }
-  FOR I := 0 TO N DO D[I] := S[I]
+  N := N DIV 2;
+  I := 0;
+  REPEAT
+    D[I] := S[I];
+    I := I + 1
+  UNTIL I > N
+END;
+
+{ Whether they are equal: whole words are compared, and then the byte that may be left }
+FUNCTION SAMETEXT(VAR S, T: WORDS): BOOLEAN;
+VAR
+  I, N, LAST: INTEGER;
+  SAME: BOOLEAN;
+BEGIN
+  N := ORD(ODD(S[0]) AND ODD(255));
+  SAME := N = ORD(ODD(T[0]) AND ODD(255));
+  IF SAME THEN
+    BEGIN
+      LAST := (N + 1) DIV 2;
+      I := 0;
+      WHILE I < LAST DO
+        IF S[I] = T[I] THEN I := I + 1
+        ELSE
+          BEGIN
+            SAME := FALSE;
+            I := LAST
+          END;
+      IF SAME AND NOT ODD(N) THEN
+        SAME := ORD(ODD(S[LAST]) AND ODD(255)) = ORD(ODD(T[LAST]) AND ODD(255))
+    END;
+  SAMETEXT := SAME
 END;
 
 PROCEDURE APPEND(VAR D, S: BYTES; M: INTEGER);
