@@ -6,7 +6,7 @@ from .context import number
 from .functions import StandardFunctions
 from .long_values import is_long
 from .symbols import Routine
-from .types import BOOLEAN, CHAR, INTEGER, Pointer, String, is_ordinal
+from .types import CHAR, INTEGER, Pointer, String, is_ordinal
 
 UNITREAD, UNITWRITE, HALT, IOCHECK = 5, 6, 39, 0
 

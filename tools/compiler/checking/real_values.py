@@ -3,7 +3,7 @@
 from . import tree
 from .locations import Locations
 from .reals import SIGN, calculated, order_of, real_of, whole_of
-from .types import BOOLEAN, INTEGER, REAL, is_ordinal
+from .types import INTEGER, REAL, is_ordinal
 
 ROUTINES = {"+": "ADDREALS", "-": "SUBREALS", "*": "MULREALS", "/": "DIVREALS"}
 FUNCTIONS = {"SIN": "SINE", "COS": "COSINE", "ATAN": "ARCTANGENT", "ARCTAN": "ARCTANGENT",
