@@ -222,7 +222,8 @@ PROCEDURE P(VAR E: TEXT); BEGIN WRITELN(E, 'P', 1:3) END;""",
     ("a file that is not open", "VAR F: TEXT;",
      "REWRITE(F, '#1:'); WRITE(F, 'A'); CLOSE(F); WRITE(F, 'B')", "", "A", ERROR + " 1"),
     # What is done by words
-    ("one element more or less", """TYPE T = SET OF 0..20; VAR S: T; I, N: INTEGER; B: SET OF BOOLEAN;
+    ("one element more or less", """TYPE T = SET OF 0..20;
+VAR S: T; I, N: INTEGER; B: SET OF BOOLEAN;
 PROCEDURE P(VAR X: T; I: INTEGER); BEGIN X := X + [I]; X := X - [I - 1] END;
 FUNCTION F: INTEGER; BEGIN S := []; F := 3 END;""",
      "S := []; FOR I := 0 TO 20 DO IF ODD(I) THEN S := S + [I]; I := 5; S := S - [I]; P(S, 8); "
@@ -232,6 +233,14 @@ FUNCTION F: INTEGER; BEGIN S := []; F := 3 END;""",
     ("error 1: an element that a set has not", "VAR S: SET OF 0..20; I: INTEGER;",
      "S := []; I := 31; S := S + [I]; WRITE(I IN S); I := 32; S := S + [I]", "", "TRUE",
      ERROR + " 1"),
+    ("FILLCHAR from each byte on", "VAR A: PACKED ARRAY[0..40] OF CHAR; I, J, N, BAD: INTEGER;",
+     "BAD := 0; FOR I := 0 TO 12 DO FOR N := -1 TO 20 DO BEGIN FOR J := 0 TO 40 DO A[J] := '.'; "
+     "FILLCHAR(A[I], N, 'X'); FOR J := 0 TO 40 DO IF (A[J] = 'X') <> ((J >= I) AND (J < I + N)) "
+     "THEN BAD := BAD + 1 END; FILLCHAR(A, 41, 200); FOR J := 0 TO 40 DO IF ORD(A[J]) <> 200 THEN "
+     "BAD := BAD + 1; WRITE(BAD)", "", "0", ""),
+    ("texts in quotes fill strings", "VAR S: STRING[4]; T: STRING[5];", "S := 'ABCD'; T := 'X'; "
+     "WRITE(S, T, LENGTH(T)); T := 'ABCDE'; S := ''; WRITE(T, S, LENGTH(S)); S := 'ABCDE'", "",
+     "ABCDX1ABCDE0", ERROR + " 1"),
     ("strings are equal up to their ends", STRINGS + "V: STRING[4]; W: STRING[3];",
      "FOR I := 0 TO 5 DO BEGIN S := COPY('ABCDE', 1, I); T := COPY('ABCDEF', 1, I); "
      "WRITE(S = T, S <> T, ' '); IF I > 0 THEN BEGIN {$R-} T[I + 1] := 'X'; {$R+} WRITE(S = T); "

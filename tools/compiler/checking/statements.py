@@ -77,6 +77,8 @@ class Statements(InputOutput):
             most, text = tree.Constant(None, kind.most), self.string(node.value)
             if has_same_room(text, location):
                 return tree.MoveWords(node.place, location, tree.Address(text.location), kind.size)
+            if isinstance(text, tree.TextValue) and len(text.text) <= kind.most:
+                return tree.StoreText(node.place, location, chr(len(text.text)) + text.text)
             source = tree.StringAddress(text)
             return self.perform(node, "ASSIGN", tree.Address(location), source, most)
         if isinstance(kind, Set) and not isinstance(value.type, Set):

@@ -254,7 +254,7 @@ class MoveWords(Fields):
 
 
 class StoreText(Fields):
-    """Stores a text in quotes in an array of characters."""
+    """Stores a text in quotes in an array of characters, or with its length in a string."""
 
     place: Place
     location: Any

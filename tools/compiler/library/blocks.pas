@@ -61,11 +61,25 @@ BEGIN
   SCANBYTES := I
 END;
 
+PROCEDURE FILLWORDS(VAR D: WORDS; AT, LAST, W: INTEGER);
+BEGIN
+  REPEAT
+    D[AT] := W;
+    AT := AT + 1
+  UNTIL AT > LAST
+END;
+
 PROCEDURE FILL(VAR D: BYTES; AT, N: INTEGER; C: CHAR);
 VAR
   I: INTEGER;
 BEGIN
-  FOR I := AT TO AT + N - 1 DO D[I] := C
+  N := AT + N;                   { the first byte behind }
+  IF (N > AT + 7) AND NOT ODD(AT) THEN
+    BEGIN
+      FILLWORDS(D, AT DIV 2, N DIV 2 - 1, 257 * ORD(ODD(ORD(C)) AND ODD(255)));
+      AT := N - ORD(ODD(N) AND ODD(1))
+    END;
+  FOR I := AT TO N - 1 DO D[I] := C
 END;
 
 PROCEDURE MOVELEFT(VAR S: BYTES; FROM: INTEGER; VAR D: BYTES; AT, N: INTEGER);
