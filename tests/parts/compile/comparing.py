@@ -15,7 +15,7 @@ from .random_programs import random_program
 
 # Faults of a program that are known to a compiler: what the program would have done is not tried.
 KNOWN = ("divides by 0", "is outside")
-TOLD = 60  # random programs that are tried on each planted fault
+TOLD, REALS = 60, 600  # random programs and operations that are tried on each planted fault
 
 
 def data_of(program, seed):
@@ -99,7 +99,7 @@ def told_programs(room, running, seed):
               "ending": ending.replace("execution ", "") or "normal"}
              for name, declarations, statements, given, output, ending in
              CASES + real_cases.CASES + file_cases.CASES + longs.CASES]
-    asked, lines = reals.operations(random.Random(1), TOLD)
+    asked, lines = reals.operations(random.Random(1), REALS)
     cases.append({"name": "operations with REALs", "text": reals.PROGRAM, "given": asked,
                   "output": "".join(f"{line}\n" for line in lines), "is_echoed": False,
                   "ending": "normal"})

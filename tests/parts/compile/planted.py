@@ -57,7 +57,7 @@ FAULTS = [
     ("compiler/library/blocks.pas", "UNTIL (D <> 0) OR (I = N)", "UNTIL (D <> 0) OR (I = N - 1)"),
     ("compiler/library/reals.pas", "IF (REST > HALFWAY) OR ODD(LOW)", "IF (REST > HALFWAY)"),
     ("compiler/library/reals.pas", "REST := 4096 - REST", "REST := 4095 - REST"),
-    ("compiler/library/reals.pas", "IF (T > B3) OR (T = B3) AND (U >= B1)", "IF (T > B3)"),
+    ("compiler/library/reals.pas", "IF (T > B3) OR (T = B3) AND (U >= B1)", "IF (T > B3 + B3)"),
     ("compiler/library/decimals.pas", "5 * UNITAT(PLACE + 1)", "4 * UNITAT(PLACE + 1)"),
     ("compiler/library/files.pas", "IF M > N - I THEN M := N - I", "IF M > N THEN M := N"),
     ("compiler/library/directory.pas", "UNLINK(OLD);", ""),
