@@ -136,17 +136,20 @@ def check_names():
             fault(f"{' and '.join(sorted(paths))}: both define {name}")
 
 
-# What a proof may cite of the proofs of another crate: the lemmas of base, and two modules on std's
-# lists and maps.
+# What a proof may cite of the proofs of another crate: the lemmas of base, and three modules on
+# std's lists and maps.
 SHARED_LEMMAS = re.compile(
     r"base\.|paxos_learner\.proofs\.OnePlace\.|group_protocol\.proofs\.Elements\."
+    r"|group_rules\.proofs\.Lists\."
 )
 
-# What the proofs of one crate may cite besides: group_progress goes on where the invariants of the
-# worlds that are reached end, and no crate stands on it.
+# What the proofs of one crate may cite besides: the witnesses of group_world are written down over
+# the small programs and the votes of those of group_rules; and group_progress goes on where the
+# invariants of the worlds that are reached end, and no crate stands on it.
 LEMMAS_FOR = {
+    "group_world": re.compile(r"group_rules\.proofs\.(SmallPrograms|WrittenVotes)\."),
     "group_progress": re.compile(
-        r"group_world\.proofs\.(WorldAsGroup|OrderLists|SoundWorldsAgree)\."
+        r"group_world\.proofs\.WorldAsGroup\."
         r"|paxos_msg\.proofs\.(Agreement|CountingNodes|Invariant)\."
         r"|paxos_proposer\.proofs\.Proposals\.|pcode_machine\.proofs\.Ways\."
     ),

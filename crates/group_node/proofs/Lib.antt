@@ -1,3 +1,1 @@
 mod Exact
-mod Seats
-mod RunSteps

@@ -1,5 +1,4 @@
 pub mod Starting
-pub mod World
 pub mod Inputs
 pub mod Output
 pub mod Player
@@ -8,4 +7,3 @@ pub mod States
 pub mod Calls
 pub mod NodeCalls
 pub mod Deeds
-pub mod WrongSteps

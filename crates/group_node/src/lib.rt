@@ -10,9 +10,9 @@
 //!
 //! Tick each node from time to time, and let one node campaign, which then leads. docs/LIBRARY.md
 //! runs a node by hand. A refusal is a `NodeFault`: after `Memory` nothing has
-//! changed, and after `Store` the node is stopped. The module `laws` has what holds of each node
-//! and of its group; those of its part in the protocol, which knows no machine, are laws of
-//! `group_protocol`.
+//! changed, and after `Store` the node is stopped. The module `laws` has what holds of each node's
+//! output; laws of its part in the protocol, which knows no machine, are in `group_protocol`, and
+//! what its calls may do to a group is in `group_rules`.
 #![tactic(auto)]
 
 mod console;

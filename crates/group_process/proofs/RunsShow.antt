@@ -13,10 +13,11 @@ use Rattle.paxos_msg.specs.Records.{empty_record}
 use Rattle.paxos_acceptor.specs.declared.me.Me.{Me}
 use Rattle.group_protocol.specs.States.{IsSize}
 use Rattle.group_world.specs.Group.{World, member_at, new_world, seat_of_member, up_of}
-use Rattle.group_world.specs.Headline.{ConsolesGrow}
+use Rattle.group_rules.specs.Claims.{ConsolesGrow}
 use Rattle.group_node.specs.NodeCalls.{Running}
 use Rattle.group_world.specs.Member.{Member}
-use Rattle.group_world.specs.Processes.{AlwaysLaterOfProcesses, AlwaysOfProcesses, ConsolesShowReleased, Entry, HasMoment, IsHistory, IsLog, entries_of}
+use Rattle.group_rules.specs.Claims.{ConsolesShowReleased}
+use Rattle.group_world.specs.Processes.{AlwaysLaterOfProcesses, AlwaysOfProcesses, Entry, HasMoment, IsHistory, IsLog, entries_of}
 use Rattle.group_process.specs.Runs.{AreFirstRuns, AreRuns, Attempt, ConsolesAreReleased, ConsolesShowRuns, GoesOn, IsAfterRuns, NodeRun, Starts, ends_by, entries_of_attempt, node_after, node_left, record_left, run_output}
 use Rattle.group_process.proofs.GroupLogs.{first, first_at}
 use Rattle.group_process.proofs.RunFronts.{still_attempt}

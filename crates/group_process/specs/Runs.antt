@@ -15,7 +15,7 @@ use Rattle.group_protocol.specs.Protocol.{on_message}
 use Rattle.group_protocol.specs.ProposerRows.{on_campaign}
 use Rattle.group_protocol.specs.States.{IsSize}
 use Rattle.group_node.specs.States.{input}
-use Rattle.group_node.specs.World.{WorldState}
+use Rattle.group_rules.specs.Rules.{WorldState}
 use Rattle.group_node.specs.NodeCalls.{Running}
 use Rattle.group_wire.specs.Doings.{Doing}
 use Rattle.group_wire.specs.Process.{IsProcess, Process}

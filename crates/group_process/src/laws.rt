@@ -11,9 +11,8 @@ ghost use Rattle.group_protocol.specs.States.{IsSize};
 ghost use Rattle.group_wire.specs.Traffic.{Letter, letters_of};
 ghost use Rattle.group_world.specs.Group.{messages_in};
 ghost use Rattle.group_world.specs.Member.{Member};
-ghost use Rattle.group_world.specs.Headline.{ConsolesAgree, ConsolesGrow, ConsolesHoldOutput, HasNoGap, LearnedAgree, LearnedChosen, LearnedStays};
-ghost use Rattle.group_world.specs.Order.{KeysOnce, SerialsInOrder};
-ghost use Rattle.group_world.specs.Processes.{ConsolesShowReleased, Entry};
+ghost use Rattle.group_rules.specs.Claims.{ConsolesAgree, ConsolesGrow, ConsolesHoldOutput, ConsolesShowReleased, HasNoGap, KeysOnce, LearnedAgree, LearnedChosen, LearnedStays, SerialsInOrder};
+ghost use Rattle.group_world.specs.Processes.{Entry};
 ghost use Rattle.group_process.specs.Network.{IsNetworkLog, MayHear, GivenEntry, entries_alone};
 ghost use Rattle.group_process.specs.Runs.{AlwaysLaterOfRuns, AlwaysOfNodes, AlwaysOfRuns, AreHistory, AreRuns, Attempt, ConsolesAreReleased, ConsolesShowRuns, HasRuns, IsAfterRuns, IsGroupLog, LeaveNodes};
 

@@ -21,7 +21,7 @@ use Rattle.paxos_learner.specs.Learner.{Learner, front_of}
 use Rattle.paxos_proposer.specs.Proposer.{Proposer, coverage_of, is_covered_by, is_kept_from, next_of, proposed_at}
 use Rattle.group_protocol.specs.Known.{Known}
 use Rattle.group_world.specs.Group.{World, world_state}
-use Rattle.group_world.proofs.WorldAsGroup.{running}
+use Rattle.group_progress.proofs.Going.{by_rules}
 use Rattle.group_progress.proofs.Steps.{Has}
 use Rattle.group_progress.proofs.Common.{Common, IsOf, Setting, grown, none_greater}
 use Rattle.group_progress.proofs.Learning.{Laws, Lead, one_ballot}
@@ -47,7 +47,7 @@ Covers x p = (i : ℕ) → IsOf x i → coverage_of p i ≡ PLACES
 module _ (laws : Laws) (x : Setting) (most : IsMajority x.group.size x.members) {w : World} (c : Common x w) where
   module _ {i : ℕ} {k : Known} (has : Has w i k) where
     pub chosen_at : (s : ℕ) (u : Value) → get k.learner.learned s ≡ Some u → IsChosen w.group.size (world_state w).sent s u
-    chosen_at s u at = (running c.good.holds.sound (record { there = has.there; up = has.up })).learned.chosen s u at
+    chosen_at s u at = (by_rules c.good.holds (record { there = has.there; up = has.up })).learned.chosen s u at
 
     -- what is learned at a place is what was proposed there
     pub learned_is : (s : ℕ) (u proposed : Value) → get k.learner.learned s ≡ Some u → IsSaid (world_state w).sent

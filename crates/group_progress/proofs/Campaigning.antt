@@ -28,14 +28,14 @@ use Rattle.group_progress.proofs.Covering.{AskNew, Cov, Pre, Ready, cover_all}
 use Rattle.group_progress.proofs.CountedKeys.{keys_to}
 use Rattle.group_progress.proofs.Cycle.{MoreLaws}
 use Rattle.group_progress.proofs.Draining.{drain_all}
-use Rattle.group_progress.proofs.Going.{Good}
+use Rattle.group_progress.proofs.Going.{Good, by_rules}
 use Rattle.group_progress.proofs.Fronts.{ahead_on, then_on}
 use Rattle.group_progress.proofs.Onward.{LearnLaws}
 use Rattle.group_progress.proofs.Within.{stay, then, within}
 use Rattle.group_progress.proofs.KeysKept.{Shrinks}
 use Rattle.group_progress.proofs.Learners.{count_within, none_counted}
 use Rattle.group_progress.proofs.Learning.{Lead}
-use Rattle.group_world.proofs.OrderLists.{in_from_place}
+use Rattle.group_rules.proofs.Lists.{in_from_place}
 use Rattle.group_progress.proofs.Proposers.{AreBelow, found_below}
 use Rattle.group_progress.proofs.Reading.{HasKey}
 use Rattle.group_progress.proofs.Settling.{settle}
@@ -155,8 +155,8 @@ module _ (more : MoreLaws) (learn : LearnLaws) (members : ℕ → Bool) (n : ℕ
     front_low i {k} has = elim (cases_lt top (front k)) [
       | inr within ↦ within
       | inl above ↦
-          let inv = invariant_of good.holds.sound.grew in
-          let sound = running good.holds.sound (record { there = has.there; up = has.up }) in
+          let inv = invariant_of good.holds.rules.sound.grew in
+          let sound = by_rules good.holds (record { there = has.there; up = has.up }) in
           let (u, at) = some_at k.learner.learned top ((more.laws.front k.learner).below top above) in
           let (b, chosen) = sound.learned.chosen top u at in
           let (j, some, low, here, there) = majorities_meet group.size members chosen.0 most

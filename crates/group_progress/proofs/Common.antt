@@ -127,7 +127,7 @@ not_itself b (inr (same, less)) = omega (arith, less)
 
 module _ (x : Setting) {w : World} (c : Common x w) (most : IsMajority x.group.size x.members) where
   pub grown : Invariant w.group.size (world_state w).sent (λ i. ((world_state w).seats i).kept)
-  grown = invariant_of c.good.holds.sound.grew
+  grown = invariant_of c.good.holds.rules.sound.grew
 
   -- the record of a node is what it knows
   pub kept_is : (i : ℕ) (k : Known) → Has w i k → ((world_state w).seats i).kept.promised ≡ k.kept.promised

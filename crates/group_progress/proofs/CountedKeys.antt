@@ -4,7 +4,7 @@ use Rattle.std.specs.List.{range_with_len}
 use Rattle.std.proofs.lemmas.Grind.{flat_map-append}
 use Rattle.std.proofs.lemmas.Bool.{cases_eq}
 use Rattle.paxos_msg.specs.Keys.{Key}
-use Rattle.group_world.proofs.OrderLists.{range_more}
+use Rattle.group_rules.proofs.Lists.{range_more}
 
 module _ (members : ℕ → Bool) (keys : ℕ → List Key) where
   -- the keys of a node, if it is meant

@@ -37,7 +37,7 @@ use Rattle.group_progress.proofs.Calm.{UpWith, made_leaves}
 use Rattle.group_progress.proofs.Going.{EventLaws, Good, fits_at, fits_me}
 use Rattle.group_progress.proofs.Hearing.{hears_it, made_sends, sends_it}
 use Rattle.group_progress.proofs.Leading.{Covers, covers_steady, promise_up}
-use Rattle.group_world.proofs.OrderLists.{in_from_place, in_range}
+use Rattle.group_rules.proofs.Lists.{in_from_place, in_range}
 use Rattle.group_progress.proofs.Promising.{Agreed, agreed_steady, all_low, all_promise, begun, stays, ticks_at}
 use Rattle.group_progress.proofs.Proposers.{reaches}
 use Rattle.group_progress.proofs.Runs.{AtWith, good_at, group_at}

@@ -348,7 +348,7 @@ module _ (laws : Laws) (x : Setting) (top : ℕ) (leader : IsOf x x.leader) (l :
     pub proposer : Proposer
     pub cov : Cov x top v proposer l offered
     pub done : (j : ℕ) → IsOf x j → j ≤ k → coverage_of proposer j ≡ PLACES
-    pub todo : (j : ℕ) → k < j → j < 10 → coverage_of proposer j ≡ from
+    pub ahead : (j : ℕ) → k < j → j < 10 → coverage_of proposer j ≡ from
     pub ask : AskNew x v from
 
   cover_next : (from parts : ℕ) → from < PLACES → from ≤ top → top < from + parts * MOST_VOTES → (k : ℕ) (w : World) → suc k ≤ x.group.size
@@ -358,7 +358,7 @@ module _ (laws : Laws) (x : Setting) (top : ℕ) (leader : IsOf x x.leader) (l :
   cover_next from parts room within_top short k w low own u =
       let here : IsOf x (suc k) = record { some = omega arith; below = low; own = own } in
       let few : suc k < 10 = omega (arith, low, u.cov.pre.good.holds.sound.size.few, ap (λ (g : Group). g.size) u.cov.pre.group) in
-      within (then (cover_node (suc k) here parts w u.proposer from u.cov (u.todo (suc k) (omega arith) few) room within_top u.ask short)
+      within (then (cover_node (suc k) here parts w u.proposer from u.cov (u.ahead (suc k) (omega arith) few) room within_top u.ask short)
       (λ v whole.
       let done : (j : ℕ) → IsOf x j → j ≤ suc k → (j ≡ suc k) ⊎ (j ≢ suc k) → coverage_of whole.proposer j ≡ PLACES = λ j of below
       cases. elim cases [
@@ -370,7 +370,7 @@ module _ (laws : Laws) (x : Setting) (top : ℕ) (leader : IsOf x x.leader) (l :
           proposer = whole.proposer;
           cov = whole.cov;
           done = λ j of below. done j of below (cases_eq j (suc k));
-          todo = λ j above small. whole.others.coverages j (λ is. absurd (omega (arith, above, is))) ∙ u.todo j (omega (
+          ahead = λ j above small. whole.others.coverages j (λ is. absurd (omega (arith, above, is))) ∙ u.ahead j (omega (
             arith,
             above,
           )) small;
@@ -385,7 +385,7 @@ module _ (laws : Laws) (x : Setting) (top : ℕ) (leader : IsOf x x.leader) (l :
     proposer = u.proposer;
     cov = u.cov;
     done = λ j of below. u.done j of (by j of below (cases_eq j (suc k)));
-    todo = λ j above small. u.todo j (omega (arith, above)) small;
+    ahead = λ j above small. u.ahead j (omega (arith, above)) small;
     ask = u.ask;
   } where
     by : (j : ℕ) → IsOf x j → j ≤ suc k → (j ≡ suc k) ⊎ (j ≢ suc k) → j ≤ k
@@ -406,7 +406,7 @@ module _ (laws : Laws) (x : Setting) (top : ℕ) (leader : IsOf x x.leader) (l :
         proposer = p;
         cov = v;
         done = λ j of below. absurd (omega (arith, of.some, below));
-        todo = λ j above small. at j small;
+        ahead = λ j above small. at j small;
         ask = new;
       } in
       within (then (each_within x.group.size 0 (parts * 2) (Upto from) (λ i v. i ≢ x.leader → Promised x v i) (skip_node from)

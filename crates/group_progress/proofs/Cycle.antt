@@ -12,8 +12,8 @@ use Rattle.paxos_proposer.specs.Proposer.{Proposer, is_kept_from, next_of}
 use Rattle.group_protocol.specs.Known.{Known, front}
 use Rattle.group_protocol.specs.ProposerRows.{is_known_key}
 use Rattle.group_protocol.specs.WaitingKeys.{batch_of, waiting_keys}
-use Rattle.group_world.specs.Group.{World, world_state}
-use Rattle.group_world.specs.Ordered.{IsFirstUnread, IsRowOf}
+use Rattle.group_world.specs.Group.{World}
+use Rattle.group_progress.proofs.Unread.{IsFirstUnread, IsUnreadAt}
 use Rattle.group_world.proofs.WorldAsGroup.{running}
 use Rattle.group_progress.proofs.Above.{Covers, front_within, none_above}
 use Rattle.group_progress.proofs.Common.{Common, IsOf, Setting, one_known}
@@ -30,6 +30,15 @@ pub record MoreLaws : Type 0 where
   pub stands : (n : Known) (k : Key) → IsTrue (is_learned n.learner.learned k) → StandsIn n.learner.learned k
   pub batch : (n : Known) (v : Value) → batch_of n n.waiting ≡ Some v → keys_of v ≡ take MOST_CHARACTERS (waiting_keys n)
   pub no_batch : (n : Known) → batch_of n n.waiting ≡ None → waiting_keys n ≡ []
+
+-- the first keys that wait are a batch
+pub first_batch : (more : MoreLaws) (n : Known) (k : Key) (rest : List Key) → waiting_keys n ≡ k ∷ rest
+    → (v : Value) × (batch_of n n.waiting ≡ Some v) × ((others : List Key) × (keys_of v ≡ k ∷ others))
+first_batch more n k rest e = by (batch_of n n.waiting) refl where
+  by : (o : Option Value) → batch_of n n.waiting ≡ o
+      → (v : Value) × (batch_of n n.waiting ≡ Some v) × ((others : List Key) × (keys_of v ≡ k ∷ others))
+  by None at = let no : k ∷ rest ≡ [] = sym e ∙ more.no_batch n at in absurd cc
+  by (Some v) at = (v, at, (take 31 rest, more.batch n v at ∙ ap (take MOST_CHARACTERS) e))
 
 -- the node leads, all have learned what it has proposed, and it has nothing more to propose by itself
 pub record Settled (x : Setting) (w : World) (p : Proposer) (l : Learner) (offered : List Key) : Type 0 where
@@ -50,19 +59,7 @@ module _ (more : MoreLaws) (x : Setting) (most : IsMajority x.group.size x.membe
   pub unread : {w : World} (c : Common x w) {i : ℕ} {n : Known} → Has w i n
       → IsFirstUnread (keys_in_order (front_values n.learner.learned)) (waiting_keys n)
   unread {w} c {i} {n} has =
-      let row : IsRowOf (world_state w).typed i has.node.kept n =
-      subst (λ o. IfSome o (λ q. IsRowOf (world_state w).typed i has.node.kept q.known)) has.up
-      (c.good.holds.ordered.keys.nodes i has.node has.there) in
-      row.row.first
-
-  -- a batch of the first waiting keys
-  pub batch_first : (n : Known) (k : Key) (rest : List Key) → waiting_keys n ≡ k ∷ rest
-      → (v : Value) × (batch_of n n.waiting ≡ Some v) × ((more : List Key) × (keys_of v ≡ k ∷ more))
-  batch_first n k rest e = by (batch_of n n.waiting) refl where
-    by : (o : Option Value) → batch_of n n.waiting ≡ o → (v : Value) × (batch_of n n.waiting ≡ Some v) ×
-        ((more : List Key) × (keys_of v ≡ k ∷ more))
-    by None at = let no : k ∷ rest ≡ [] = sym e ∙ more.no_batch n at in absurd cc
-    by (Some v) at = (v, at, (take 31 rest, more.batch n v at ∙ ap (take MOST_CHARACTERS) e))
+      subst (λ o. IfSome o (λ q. IsUnreadAt q.known)) has.up (c.good.unread i has.node has.there)
 
   module _ {w : World} {p : Proposer} {l : Learner} {offered : List Key} (s : Settled x w p l offered) where
     -- what the leading node has learned or offered, each node that acts has read

@@ -23,7 +23,7 @@ use Rattle.group_protocol.specs.Protocol.{on_message}
 use Rattle.group_protocol.specs.Tick.{asks, submits}
 use Rattle.group_protocol.specs.WaitingKeys.{waiting_keys}
 use Rattle.group_world.specs.Group.{World, world_state}
-use Rattle.group_world.specs.Ordered.{IsFirstUnread}
+use Rattle.group_progress.proofs.Unread.{IsFirstUnread}
 use Rattle.group_progress.specs.GoingOn.{ReachesWithin, messages_of_batch, most_batches, ticks_of_batch}
 use Rattle.group_progress.proofs.Above.{front_within, learned_is}
 use Rattle.group_progress.proofs.Chasing.{backed, chase}
@@ -38,7 +38,7 @@ use Rattle.group_progress.proofs.Reading.{HasKey, no_more, read_agree, read_at}
 use Rattle.group_progress.proofs.Steps.{Has, hears, ticks}
 use Rattle.group_progress.proofs.Submitting.{covered, new_value, none_after, of_offered, size_is, submit_offers, tick_rests}
 use Rattle.group_progress.proofs.Telling.{Ahead, in_bodies, some_at, tell_all, tick_keeps, tick_sends}
-use Rattle.group_progress.proofs.Cycle.{MoreLaws, Settled, batch_first, lead_read, new_key, unread}
+use Rattle.group_progress.proofs.Cycle.{MoreLaws, Settled, first_batch, lead_read, new_key, unread}
 use Rattle.group_progress.proofs.Steps.{IsCost, each_at_cost, turn_more}
 use Rattle.group_progress.proofs.Learning.{more_learned}
 
@@ -81,7 +81,7 @@ module _ (more : MoreLaws) (learn : LearnLaws) (x : Setting) (most : IsMajority 
         let n : Known = g.known in
         let low : next_of p < PLACES = omega (arith, room) in
         let keeps = tick_keeps n n.proposer in
-        let (u, batch, (others, keys)) = batch_first more x most leader n k rest waits in
+        let (u, batch, (others, keys)) = first_batch more n k rest waits in
         within (then_on learn laws.front_rises (ticks laws.events c.good i here.own g.has (λ v s. s)) (λ v1 s1 rises1.
         let c1 = common_after x c s1 (ap (λ (r : Record). r.promised) keeps.kept ∙ g.promised) (shrink_ticked n g.keys) in
         let lead1 = lead_kept x s1 s.lead (λ is.

@@ -36,7 +36,7 @@ use Rattle.paxos_msg.specs.Keys.{Key, keys_of}
 use Rattle.group_protocol.specs.declared.limits.TheConstants.{MOST_WAITING}
 use Rattle.group_protocol.specs.WaitingKeys.{waiting_keys}
 use Rattle.group_world.specs.Deeds.{EndsCall, Left}
-use Rattle.group_world.proofs.OrderLists.{in_flat_map, in_range}
+use Rattle.group_rules.proofs.Lists.{in_flat_map, in_range}
 use Rattle.group_progress.proofs.Starting.{happens_good}
 use Rattle.std.proofs.lemmas.Bool.{cases_eq}
 use Rattle.group_progress.proofs.Quiet.{everyone}
@@ -85,7 +85,7 @@ module _ (laws : EventLaws) (p : Parts) (g : Group) (begins : Good (new_world p 
   pub record Started (k : ℕ) (v : World) : Type 0 where
     pub good : Good v
     pub none : (m : Msg) → Contains (world_state v).sent m → ⊥
-    pub todo : (j : ℕ) → k < j → member_at v.members j ≡ member_at (new_world p g).members j
+    pub ahead : (j : ℕ) → k < j → member_at v.members j ≡ member_at (new_world p g).members j
 
   -- the next node starts
   start_one : (k : ℕ) (v : World) → suc k ≤ g.size → IsTrue (everyone (suc k)) → Started k v
@@ -93,7 +93,7 @@ module _ (laws : EventLaws) (p : Parts) (g : Group) (begins : Good (new_world p 
       ((j : ℕ) → j ≢ suc k → AtWith (IsFresh ⊥) v j → AtWith (IsFresh ⊥) u j))
   start_one k v low own s =
       let (m, at) = slice_some (new_world p g).members k (omega (arith, low, begins.holds.sound.places)) in
-      let there : member_at v.members (suc k) ≡ Some m = s.todo (suc k) (omega arith) ∙ at in
+      let there : member_at v.members (suc k) ≡ Some m = s.ahead (suc k) (omega arith) ∙ at in
       let is : stopped empty_record ≡ m = first_node p g (suc k) m at in
       let down : m.node ≡ None = ap (λ (m : Member). m.node) (sym is) in
       let kept : empty_record ≡ m.kept = ap (λ (m : Member). m.kept) is in
@@ -103,7 +103,7 @@ module _ (laws : EventLaws) (p : Parts) (g : Group) (begins : Good (new_world p 
           good = step.good;
           none = λ message among. s.none message
               (subst (λ (sent : Sent). Contains sent message) (step.sent ∙ append-nil (world_state v).sent) among);
-          todo = λ j above. step.others j (λ same. omega (arith, above, same)) ∙ s.todo j (omega (arith, above));
+          ahead = λ j above. step.others j (λ same. omega (arith, above, same)) ∙ s.ahead j (omega (arith, above));
         },
         record {
           node = step.now.node;
@@ -118,7 +118,7 @@ module _ (laws : EventLaws) (p : Parts) (g : Group) (begins : Good (new_world p 
       (λ v. Started g.size v × ((i : ℕ) → 0 < i → i ≤ g.size → IsTrue (everyone i) → AtWith (IsFresh ⊥) v i))
   all_start = each_in_turn g.size Started (λ i v. AtWith (IsFresh ⊥) v i) (λ k v none s. absurd (none refl)) start_one g.size (omega arith)
       (new_world p g)
-      (record { good = begins; none = λ message among. none_in message among; todo = λ j above. refl })
+      (record { good = begins; none = λ message among. none_in message among; ahead = λ j above. refl })
 
 -- the group stays
 pub group_stays : (v : World) (events : List Event) (w : World) → LeadsBy v events w → w.group ≡ v.group

@@ -28,22 +28,22 @@ use Rattle.group_world.specs.declared.event.Done.TheVariants.{Applied}
 use Rattle.group_world.specs.declared.event.Event.{Event}
 use Rattle.group_world.specs.Deeds.{DoesDeed, EndsCall, Left}
 use Rattle.group_world.specs.Event.{DoesAt, Goes, HearsOf, IsDeedOf, kept_event, node_of, world_after}
-use Rattle.group_world.specs.Group.{IsUp, me_of, member_at, messages_in, World, world_state}
+use Rattle.group_rules.specs.Invariants.{IsUpSound}
+use Rattle.group_world.specs.Group.{IsUp, me_of, member_at, messages_in, up_of, World, world_state}
 use Rattle.group_world.specs.Member.{Member, failing, member_after_call}
-use Rattle.group_world.specs.Ordered.{Holds, IsOrdered}
-use Rattle.group_world.specs.Sound.{IsSound, IsSpelling}
+use Rattle.group_world.specs.Sound.{Holds, IsSound, IsSpelling}
 use Rattle.group_progress.specs.GoingOn.{IsHelpful, IsOwnEvent, Reaches, ReachesWithin, messages_by, messages_heard, ticks_by, ticks_in}
 use Rattle.group_progress.proofs.Within
 use Rattle.group_progress.proofs.TalliesStay.{HearsFrom, TalliesRight, tallies_stay}
+use Rattle.group_progress.proofs.Unread.{AreUnread, UnreadLaws, unread_stays}
 use Rattle.group_world.proofs.WorldAsGroup.{ReadLaw, changed_elsewhere, changed_here, is_node, running, sent_called}
 
 -- ---- the laws of one event
 
 pub record EventLaws : Type 0 where
-  pub sound : (w v : World) (i : ℕ) (plan : Option Bool) (deed : Deed) (d : Done) → IsSound w → HearsOf w.group w.sent deed
-      → DoesAt w i plan deed d v → IsSound v
-  pub ordered : (w v : World) (i : ℕ) (plan : Option Bool) (deed : Deed) (d : Done) → IsSound w → IsSound v → IsOrdered w
-      → DoesAt w i plan deed d v → IsOrdered v
+  pub holds : (w v : World) (i : ℕ) (plan : Option Bool) (deed : Deed) (d : Done) → Holds w → HearsOf w.group w.sent deed
+      → DoesAt w i plan deed d v → Holds v
+  pub unread : UnreadLaws
   pub read : ReadLaw
   pub fits_start : (me : Me) (r : Record) → IsMember me → IsRecord me.group.size r → r.starts < LAST_START → IsFit me (on_start me r)
   pub fits_campaign : (n : Known) → IsInRange n → (next_ballot n).round < LAST_ROUND + 1 → front n < PLACES → IsFit n.me (on_campaign n)
@@ -84,10 +84,18 @@ pub heard_by : (group : Group) (sent : List Datagram) (act : Act) (deed : Deed) 
     → HearsOf group sent deed
 heard_by group sent act deed h = grind (arith, nat_tests, in_from_place)
 
--- a sound and ordered world, whose tallies are right
+-- a world of which all holds that always does, in which no first key that waits is read, and whose
+-- tallies are right
 pub record Good (w : World) : Type 0 where
   pub holds : Holds w
+  pub unread : AreUnread w
   pub tallies : TalliesRight w
+
+-- a node that is up, as the rules see it: what it has learned is chosen, and what it has released is
+-- on its console
+pub by_rules : {w : World} → Holds w → {i : ℕ} {m : Member} {q : Running} → IsUp w i m q
+    → IsUpSound w.program w.group.size (world_state w).sent m.console (up_of q)
+by_rules {w} holds {i} {m} {q} is_up = rw (is_up.there, is_up.up) at (holds.rules.sound.seats i).running
 
 -- what a call of node `i` with this response leaves; `m` was the node before
 pub record Did (w : World) (i : ℕ) (m : Member) (progress : Progress) (done : Response) (v : World) : Type 0 where
@@ -121,6 +129,17 @@ few_by group sent deed.Tick all few h = tt
 few_by group sent (deed.Run steps) all few h = tt
 few_by group sent deed.Release all few h = tt
 few_by group sent deed.Crash all few h = tt
+
+-- a deed of a node keeps it so
+pub deed_good : EventLaws → (w v : World) (i : ℕ) (plan : Option Bool) (d : Deed) (done : Done) → Good w → HearsOf w.group w.sent d
+    → DoesAt w i plan d done v → Good v
+deed_good laws w v i plan d done good heard does =
+    let sound = good.holds.sound in
+    record {
+      holds = laws.holds w v i plan d done good.holds heard does;
+      unread = unread_stays laws.unread w v i plan d done good.holds good.unread does;
+      tallies = tallies_stay w v i plan d done good.tallies (few_by w.group w.sent d sound.spelled sound.size.few heard) does;
+    }
 
 -- tests of numbers
 below_more : (a b : ℕ) → a < b → a + 1 < b + 1
@@ -175,17 +194,9 @@ module _ (laws : EventLaws) {members : ℕ → Bool} {n : ℕ} {w : World} (good
       } in
       let goes : Goes w (kept_event a) Applied v = record { deed = d; is_deed = is_deed; does = rw at does_at } in
       let is_heard = heard_by w.group w.sent a d is_deed in
-      let sound = laws.sound w v i None d Applied good.holds.sound is_heard does_at in
-      let holds : Holds v = record {
-        sound = sound;
-        ordered = laws.ordered w v i None d Applied good.holds.sound sound
-            good.holds.ordered does_at;
-      } in
-      let tallies = tallies_stay w v i None d Applied good.tallies
-      (few_by w.group w.sent d good.holds.sound.spelled good.holds.sound.size.few is_heard) does_at in
       Within.once (kept_event a) Applied (record { of_member = rw at own; kept = refl; helpful = helpful }) goes
       (go_on v (record {
-        good = record { holds = holds; tallies = tallies };
+        good = deed_good laws w v i None d Applied good is_heard does_at;
         group = refl;
         program = refl;
         there = changed_here w.members i m left.member there;

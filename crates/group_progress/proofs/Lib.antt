@@ -1,4 +1,6 @@
 mod Tallies
+mod NodesStay
+mod Unread
 mod TalliesStay
 mod Within
 mod Going

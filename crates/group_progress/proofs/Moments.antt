@@ -145,7 +145,7 @@ module _ (laws : EventLaws) (tests : TestLaws) (few : (learned : FinMap nat_cmp 
   -- what holds of all that was sent, and of the records
   pub inv_at : (n : ℕ) → Invariant (run.world n).group.size (world_state (run.world n)).sent
       (λ i. ((world_state (run.world n)).seats i).kept)
-  inv_at n = invariant_of (good_at laws run good n).holds.sound.grew
+  inv_at n = invariant_of (good_at laws run good n).holds.rules.sound.grew
 
   -- nothing is proposed above the ballot
   pub none_over : (n : ℕ) (c : Ballot) (s : ℕ) (v : Value) → IsSaid (world_state (run.world (suc n))).sent (Accept c s v) → ¬ IsBelow b c

@@ -40,7 +40,7 @@ use Rattle.group_progress.proofs.Headless.{IsHeadless, IsHeadlessBody, hears_hea
 use Rattle.group_progress.proofs.Covered.{at_more}
 use Rattle.group_progress.proofs.Hearing.{same_place}
 use Rattle.group_progress.proofs.Moments.{one_running}
-use Rattle.group_world.proofs.OrderLists.{in_flat_map, in_from_place, in_range}
+use Rattle.group_rules.proofs.Lists.{in_flat_map, in_from_place, in_range}
 use Rattle.group_progress.proofs.Promising.{kept_place}
 use Rattle.group_progress.proofs.Quiet.{Choice, Next, Quiet, allowed, calls, delivers_by, hears_so, idles_by, may_hear, pick, picks, ticks_so}
 use Rattle.group_progress.proofs.Runs.{AtWith}

@@ -25,12 +25,11 @@ use Rattle.group_progress.specs.GoingOn.{ShowsBytes}
 use Rattle.group_progress.specs.Fair.{AllIsShown, Endless, IsLed, KeepsPlaying, Later}
 use Rattle.group_world.proofs.WorldAsGroup.{changed_here, running}
 use Rattle.group_progress.proofs.Chasing.{slice_some}
-use Rattle.group_progress.proofs.Going.{Good}
+use Rattle.group_progress.proofs.Going.{Good, by_rules}
 use Rattle.group_progress.proofs.Moments.{one_running}
 use Rattle.group_progress.proofs.Onward.{LearnLaws, Onward, OnwardAt, does_at, onward_itself, onward_stays, onward_through, program_at}
 use Rattle.group_progress.proofs.Runs.{good_at}
-use Rattle.group_progress.proofs.Showing.{MOST_STEPS, ShowLaws, out_is, stays as still_after}
-use Rattle.group_world.proofs.SoundWorldsAgree.{console_compares, written}
+use Rattle.group_progress.proofs.Showing.{MOST_STEPS, ShowLaws, console_compares, out_is, stays as still_after, written}
 use Rattle.group_progress.proofs.Stages.{Stays, from_then, later_then, now}
 
 -- the laws of output and of input
@@ -315,7 +314,7 @@ module _ (laws : PlayedLaws) {members : ℕ → Bool} {leader : ℕ} {b : Ballot
       ap (λ p. out p (input h.at.running.known) h.at.running.progress.steps) (program_is n h.at.up) in
       let compares : AreComparable h.at.node.console wrote =
       subst (AreComparable h.at.node.console) is
-      (console_compares laws.show.play (good_at laws.show.events run good n).holds.sound h.at.up) in
+      (console_compares laws.show.play (good_at laws.show.events run good n).holds h.at.up) in
       let begins : IsPrefix text whole = text_in laws w.program base most h.at.running h.at.on in
       let alike : AreComparable text wrote = elim (cases_lt h.at.running.progress.steps most) [
         | inr enough ↦ inl (laws.show.through text whole wrote begins
@@ -332,7 +331,8 @@ module _ (laws : PlayedLaws) {members : ℕ → Bool} {leader : ℕ} {b : Ballot
       record {
         node = h.at.node;
         there = h.at.up.there;
-        shown = laws.show.play.shorter text h.at.node.console at_last (omega (arith, h.released, sound.shown));
+        shown = laws.show.play.shorter text h.at.node.console at_last
+            (omega (arith, h.released, (by_rules (good_at laws.show.events run good n).holds h.at.up).shown));
       }
 
   -- all bytes are shown from some moment on

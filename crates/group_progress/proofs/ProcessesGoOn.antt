@@ -1,9 +1,9 @@
 -- What events of some nodes do, deeds of their processes do, as a log that hears only what is sent in it.
-use Rattle.std.proofs.Common.{◌≡◌, ◌≢◌, ◌∙◌, ℕ, zero, suc, ◌+◌, ◌<◌, ◌≤◌, Bool, IsTrue, All, Contains, List, [], ◌∷◌, ◌++◌, append-nil, append_assoc, length, slice_get, Some, refl, sym, ap, subst, arith}
+use Rattle.std.proofs.Common.{◌≡◌, ◌≢◌, ◌∙◌, ℕ, zero, suc, ◌≤◌, Bool, IsTrue, All, Contains, List, [], ◌∷◌, ◌++◌, append-nil, append_assoc, length, slice_get, Some, sym, subst, arith}
 use Rattle.std.specs.List.{AllByRecursion}
 use Rattle.std.proofs.lemmas.List.Elements.{All-cons, All-head, All-nil, All-tail, filter_map-append}
 use Rattle.paxos_msg.specs.declared.message.Group.{Group}
-use Rattle.paxos_msg.specs.Batches.{Msg, Sent}
+use Rattle.paxos_msg.specs.Batches.{Sent}
 use Rattle.group_protocol.specs.Packets.{Datagram}
 use Rattle.group_node.specs.Deeds.{Deed, Idle}
 use Rattle.group_world.specs.declared.event.Act.{Act}
@@ -12,7 +12,7 @@ use Rattle.group_world.specs.declared.event.Event.{Event}
 use Rattle.group_world.specs.Event.{HearsOf, IsDeedOf, LeadsBy}
 use Rattle.group_world.specs.Group.{World, message_of, messages_in}
 use Rattle.group_world.specs.Processes.{AreEventsOf, AreEventsOfEntry, Entry, IsCarried, MayBeLogged}
-use Rattle.group_world.proofs.OrderLists.{in_from_place}
+use Rattle.group_rules.proofs.Lists.{in_from_place}
 use Rattle.group_progress.specs.GoingOn.{IsHelpful, IsOwnEvent, MayReach}
 use Rattle.group_progress.specs.Processes.{IsHelpfulDeed, IsOwnEntry, ProcessesMayReach}
 

@@ -25,7 +25,7 @@ use Rattle.group_world.specs.Member.{Member, member_after_release}
 use Rattle.group_world.proofs.WorldAsGroup.{changed_elsewhere, changed_here, running, sent_called}
 use Rattle.group_progress.proofs.Calm.{UpWith}
 use Rattle.group_progress.proofs.Going.{EventLaws, Good, ends, fits_at, fits_me, left_by}
-use Rattle.group_world.proofs.OrderLists.{in_from_place}
+use Rattle.group_rules.proofs.Lists.{in_from_place}
 use Rattle.group_progress.proofs.Runs.{AtWith}
 use Rattle.group_progress.proofs.Starting.{happens_good}
 use Rattle.group_progress.proofs.Sweeps.{message_part, node_part}

@@ -12,10 +12,11 @@ use Rattle.paxos_learner.specs.Learner.{IsFront, front_of}
 use Rattle.group_protocol.proofs.Elements.{first_in, in_cases, none_in, rest_in}
 use Rattle.group_protocol.specs.Known.{Known, front}
 use Rattle.group_world.specs.Group.{World, seat_of_member, up_of, world_state}
-use Rattle.group_world.specs.Headline.{HasLearned, LearnedAgree}
-use Rattle.group_world.specs.Ordered.{IsFirstUnread}
-use Rattle.group_world.specs.Sound.{IsSound}
-use Rattle.group_world.proofs.OrderLists.{in_filter, in_flat_map, in_from_place}
+use Rattle.group_rules.specs.Claims.{HasLearned, LearnedAgree}
+use Rattle.group_rules.specs.Invariants.{HoldsByRules}
+use Rattle.group_rules.specs.Rules.{WorldState}
+use Rattle.group_progress.proofs.Unread.{IsFirstUnread}
+use Rattle.group_rules.proofs.Lists.{in_filter, in_flat_map, in_from_place}
 use Rattle.group_progress.proofs.Going.{Good}
 use Rattle.group_progress.proofs.KeysKept.{KeyLaws}
 use Rattle.group_progress.proofs.Steps.{Has}
@@ -26,7 +27,7 @@ pub record ReadLaws : Type 0 where
   pub many : (learned : FinMap nat_cmp Value) (n : ℕ) → n ≤ front_of learned → length (values_below learned n) ≡ n
   pub at_place : (learned : FinMap nat_cmp Value) (n s : ℕ) → n ≤ front_of learned → s < n → slice_get (values_below learned n) s ≡ get
       learned s
-  pub agree : (w : World) → IsSound w → LearnedAgree (world_state w)
+  pub agree : (w : WorldState) → HoldsByRules w → LearnedAgree w
   pub front : (learned : FinMap nat_cmp Value) → IsFront learned (front_of learned)
 
 -- the keys that a node has read
@@ -83,7 +84,7 @@ read_agree laws keys {w} good {i} {j} {a} {b} first second far key read =
     let low : s < front a = omega (arith, slice_get_within (front_values la) s v e, laws.many la (front a) (omega arith)) in
     let at : get la s ≡ Some v = sym (laws.at_place la (front a) s (omega arith) low) ∙ e in
     let (u, there) = some_at lb s ((laws.front lb).below s (omega (arith, low, far))) in
-    let one : v ≡ u = laws.agree w good.holds.sound i j s v u (has_learned first s v at) (has_learned second s u there) in
+    let one : v ≡ u = laws.agree (world_state w) good.holds.rules i j s v u (has_learned first s v at) (has_learned second s u there) in
     laws.at_place lb (front b) s (omega arith) (omega (arith, low, far)) ∙ there ∙ ap Some (sym one)) in
     let (rest, longer) = keys.more_keys (front_values la) more in
     subst (λ ks. Contains ks key) (sym (ap keys_in_order is ∙ longer))

@@ -39,7 +39,7 @@ use Rattle.group_progress.proofs.Acceptors.{TestLaws}
 use Rattle.group_progress.proofs.Calm.{UpWith, made_leaves}
 use Rattle.group_progress.proofs.Chasing.{proposed_in}
 use Rattle.group_progress.proofs.Covered.{IsAllCovered, IsCoveredBy, at_more, covered, covered_stays, known_of}
-use Rattle.group_progress.proofs.Going.{EventLaws, Good}
+use Rattle.group_progress.proofs.Going.{EventLaws, Good, by_rules}
 use Rattle.group_progress.proofs.Lasting.{IsFirst, IsKeptOrProposed, IsNextAbove, LeadsWith, first_lasts, kept_lasts, kept_lower, leads_of, next_lasts, pump_lasts}
 use Rattle.group_progress.proofs.Leading.{Covers, pump_same}
 use Rattle.group_progress.proofs.Learners.{count_within}
@@ -147,7 +147,7 @@ module _ (laws : EventLaws) (tests : TestLaws) (few : (learned : FinMap nat_cmp 
         → IsKeptOrProposed s p q.known.offered
     learned_kept among h ballot s u low at = by (cases_Bool (is_kept_from p.kept s)) (cases_lt s (next_of p)) where
       chosen : IsChosen (run.world (suc n)).group.size (world_state (run.world (suc n))).sent s u
-      chosen = (running (good_at laws run good (suc n)).holds.sound is_up).learned.chosen s u at
+      chosen = (by_rules (good_at laws run good (suc n)).holds is_up).learned.chosen s u at
 
       no : is_kept_from p.kept s ≡ false → next_of p ≤ s → ⊥
       no none above =
@@ -302,7 +302,7 @@ module _ (laws : EventLaws) (tests : TestLaws) (few : (learned : FinMap nat_cmp 
       → get q.known.learner.learned s ≡ Some u
       → IsSaid (world_state (run.world (suc n))).sent (Accept b s v) → v ≡ u
   same_value_at n is_up s u v at said =
-      let (c, chosen) = (running (good_at laws run good (suc n)).holds.sound is_up).learned.chosen s u at in
+      let (c, chosen) = (by_rules (good_at laws run good (suc n)).holds is_up).learned.chosen s u at in
       let inv = inv_at laws tests few run good most led (suc n) in
       let (i, low, high, here, there) = majorities_meet (run.world (suc n)).group.size chosen.0 chosen.0 chosen.1 chosen.1 in
       let above = none_over laws tests few run good most led n c s u (inv.accepted i c s u (chosen.2 i here)) in

@@ -27,7 +27,7 @@ use Rattle.group_world.proofs.WorldAsGroup.{changed_elsewhere, changed_here, run
 use Rattle.group_progress.proofs.Acceptors.{TestLaws}
 use Rattle.group_progress.proofs.Calm.{IsCalmDeed, IsCalmBody, IsSteady, Low, OfPromise, UpWith, deed_keeps}
 use Rattle.group_progress.proofs.Going.{EventLaws, Good}
-use Rattle.group_world.proofs.OrderLists.{in_from_place}
+use Rattle.group_rules.proofs.Lists.{in_from_place}
 use Rattle.group_progress.proofs.Starting.{happens_good}
 
 -- ---- each world of a run
@@ -99,7 +99,7 @@ module _ (tests : TestLaws) {b : Ballot} {members : ℕ → Bool} {v : World} (g
     (all : (i : ℕ) → IsNode v.group.size i → IsTrue (members i) → AtWith (OfPromise (Low tests b)) v i) where
   -- what holds of all that was sent
   pub grown_at : Invariant v.group.size (world_state v).sent (λ i. ((world_state v).seats i).kept)
-  grown_at = invariant_of good.holds.sound.grew
+  grown_at = invariant_of good.holds.rules.sound.grew
 
   -- nothing is proposed above the ballot
   pub none_above : (c : Ballot) (s : ℕ) (value : Value) → IsSaid (world_state v).sent (Accept c s value) → ¬ IsBelow b c

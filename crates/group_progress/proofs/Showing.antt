@@ -20,14 +20,33 @@ use Rattle.group_world.specs.declared.event.Act.TheVariants as act
 use Rattle.group_world.specs.declared.event.Done.TheVariants.{Applied}
 use Rattle.group_world.specs.Deeds.{DoesDeed, Left, quietly}
 use Rattle.group_world.specs.Event.{DoesAt, Goes as Performed, IsDeedOf, kept_event, node_of, world_after}
-use Rattle.group_world.specs.Group.{IsUp, me_of, member_at, messages_in, World, world_state}
+use Rattle.group_rules.specs.Invariants.{HoldsByRules}
+use Rattle.group_rules.specs.Rules.{Up, WorldState}
+use Rattle.group_world.specs.Group.{IsUp, me_of, member_at, messages_in, up_of, World, world_state}
 use Rattle.group_world.specs.Member.{Member, RunsMember, at_progress, member_after_release}
+use Rattle.group_world.specs.Sound.{Holds}
 use Rattle.group_progress.specs.GoingOn.{IsHelpful, Reaches}
 use Rattle.group_progress.proofs.Chasing.{slice_some}
-use Rattle.group_progress.proofs.Going.{EventLaws, Good, few_by, heard_by, once, stay, then}
-use Rattle.group_world.proofs.SoundWorldsAgree.{PlayLaws, console_compares}
-use Rattle.group_progress.proofs.TalliesStay.{tallies_stay}
+use Rattle.group_progress.proofs.Going.{EventLaws, Good, by_rules, deed_good, heard_by, once, stay, then}
 use Rattle.group_world.proofs.WorldAsGroup.{changed_elsewhere, changed_here, running}
+
+-- what a machine has written
+abbrev pub written : Running → List ℕ
+written q = out q.progress.program (input q.known) q.progress.steps
+
+pub record PlayLaws : Type 0 where
+  pub compares : (w : WorldState) (i : ℕ) (u : Up) → HoldsByRules w → (w.seats i).up ≡ Some u
+      → AreComparable (w.seats i).console u.configuration.output
+  pub itself : (a : List ℕ) → IsPrefix a a
+  pub shorter : (a b : List ℕ) → AreComparable a b → length a ≤ length b → IsPrefix a b
+
+-- the console of a node is comparable with what its machine has written
+pub console_compares : PlayLaws → {w : World} → Holds w → {i : ℕ} {m : Member} {q : Running} → IsUp w i m q
+    → AreComparable m.console (written q)
+unfolding out
+console_compares laws {w} holds {i} {m} {q} is_up =
+    let compares = laws.compares (world_state w) i (up_of q) holds.rules (rw (is_up.there, is_up.up) refl) in
+    rw is_up.there at compares
 
 pub record ShowLaws : Type 0 where
   pub events : EventLaws
@@ -65,13 +84,9 @@ module _ (laws : EventLaws) {members : ℕ → Bool} {n : ℕ} {w : World} (good
       } in
       let goes : Performed w (kept_event a) Applied v = record { deed = d; is_deed = is_deed; does = rw at does_at } in
       let is_heard = heard_by w.group w.sent a d is_deed in
-      let sound = laws.sound w v i None d Applied good.holds.sound is_heard does_at in
-      let ordered = laws.ordered w v i None d Applied good.holds.sound sound good.holds.ordered does_at in
-      let tallies = tallies_stay w v i None d Applied good.tallies
-      (few_by w.group w.sent d good.holds.sound.spelled good.holds.sound.size.few is_heard) does_at in
       once (kept_event a) Applied (record { of_member = rw at own; kept = refl; helpful = helpful }) goes
       (record {
-        fine = record { holds = record { sound = sound; ordered = ordered }; tallies = tallies };
+        fine = deed_good laws w v i None d Applied good is_heard does_at;
         program = refl;
         group = refl;
         now = changed_here w.members i m new there;
@@ -286,9 +301,9 @@ module _ (laws : ShowLaws) (members : ℕ → Bool) (n : ℕ) (z : World) (p : P
       let b = h.plays in
       let is_up : IsUp v i b.node (running_at p k h.steps (length (out p (x p k) h.steps))) = record { there = b.there; up = b.up } in
       let sound = running b.good.holds.sound is_up in
-      let compares = console_compares laws.play b.good.holds.sound is_up in
+      let compares = console_compares laws.play b.good.holds is_up in
       let swapped : AreComparable (out p (x p k) h.steps) b.node.console = elim compares [ inl c ↦ inr c | inr c ↦ inl c ] in
-      let begins = laws.play.shorter (out p (x p k) h.steps) b.node.console swapped sound.shown in
+      let begins = laws.play.shorter (out p (x p k) h.steps) b.node.console swapped (by_rules b.good.holds is_up).shown in
       laws.through (out p (x p k) m) (out p (x p k) h.steps) b.node.console h.more begins
 
 -- node `i`, which knows this, has shown what its machine writes in so many steps; all else is as in `w`

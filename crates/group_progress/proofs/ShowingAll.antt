@@ -18,7 +18,7 @@ module _ (laws : ShowLaws) (members : ℕ → Bool) (n steps : ℕ) (low : steps
   record Rest (k : ℕ) (v : World) : Type 0 where
     pub good : Good v
     pub program : v.program ≡ w.program
-    pub todo : (j : ℕ) → k < j → member_at v.members j ≡ member_at w.members j
+    pub ahead : (j : ℕ) → k < j → member_at v.members j ≡ member_at w.members j
 
   abbrev Done : ℕ → World → Type 0
   Done i v = HasReadAndShown keys steps v i
@@ -29,13 +29,13 @@ module _ (laws : ShowLaws) (members : ℕ → Bool) (n steps : ℕ) (low : steps
       let h = read (suc k) (omega arith, below) own in
       let k1 : Known = h.has.running.known in
       let up : IsUp v (suc k) h.has.node h.has.running = record
-      { there = r.todo (suc k) (omega arith) ∙ h.has.up.there; up = h.has.up.up } in
+      { there = r.ahead (suc k) (omega arith) ∙ h.has.up.there; up = h.has.up.up } in
       then (may_show laws members n v r.good (suc k) h.has.node h.has.running steps own up low) (λ u s.
       stay (
         record {
           good = s.good;
           program = s.program ∙ r.program;
-          todo = λ j above. s.others j (λ is. absurd (omega (arith, above, is))) ∙ r.todo j (omega (arith, above));
+          ahead = λ j above. s.others j (λ is. absurd (omega (arith, above, is))) ∙ r.ahead j (omega (arith, above));
         },
         record {
           caught_up = record {
@@ -66,10 +66,10 @@ module _ (laws : ShowLaws) (members : ℕ → Bool) (n steps : ℕ) (low : steps
       ))
 
   skip_one : (k : ℕ) (v : World) → ¬ IsTrue (members (suc k)) → Rest k v → Rest (suc k) v
-  skip_one k v none r = record { good = r.good; program = r.program; todo = λ j above. r.todo j (omega (arith, above)) }
+  skip_one k v none r = record { good = r.good; program = r.program; ahead = λ j above. r.ahead j (omega (arith, above)) }
 
   pub show_all : Reaches members n w (AllHaveReadAndShown members size keys steps)
   show_all =
-      let start : Rest 0 w = record { good = fine; program = refl; todo = λ j above. refl } in
+      let start : Rest 0 w = record { good = fine; program = refl; ahead = λ j above. refl } in
       then (each_in_turn size Rest Done skip_one show_one size (omega arith) w start) (λ v all.
       stay (λ i node own. all.1 i node.0 node.1 own))

@@ -3,22 +3,20 @@ use Rattle.std.proofs.Common.{◌≡◌, ◌∙◌, ◌⊎◌, inl, inr, ℕ, ze
 use Rattle.std.specs.List.{range_with_len}
 use Rattle.std.proofs.lemmas.Bool.{cond_both}
 use Rattle.std.proofs.lemmas.List.Elements.{Contains-append_cases}
-use Rattle.std.specs.FinMap.{get, get-empty}
-use Rattle.std.specs.Ordering.{nat_cmp}
+use Rattle.std.specs.FinMap.{get}
 use Rattle.paxos_msg.specs.declared.ballot.Ballot.{Ballot}
 use Rattle.paxos_msg.specs.declared.limits.TheConstants.{LAST_PLACE, PLACES}
 use Rattle.paxos_msg.specs.declared.message.Body.TheVariants.{Prepare, Promise, Accept, Accepted, Refused, Submit, Ask, Tell}
 use Rattle.paxos_msg.specs.declared.value.Value.{Value}
 use Rattle.paxos_msg.specs.Ballots.{IsAtMost}
-use Rattle.paxos_msg.specs.Batches.{Body, Record, Vote}
+use Rattle.paxos_msg.specs.Batches.{Body, Vote}
 use Rattle.paxos_msg.specs.Tests.{same_ballot}
-use Rattle.paxos_acceptor.specs.declared.me.Me.{Me}
 use Rattle.paxos_acceptor.specs.Answers.{part_of}
 use Rattle.paxos_proposer.specs.declared.proposer.TheConstants.{MOST_PUMPED}
 use Rattle.paxos_proposer.specs.Proposer.{Proposer, asks_on, coverage_of, is_covered, is_kept_from, next_of, proposed_at, proposer_after_part, rises}
 use Rattle.group_protocol.proofs.Elements.{in_cases, none_in}
 use Rattle.group_protocol.specs.AcceptorRows.{unless_passed}
-use Rattle.group_protocol.specs.Known.{Known, Response, front, on_start}
+use Rattle.group_protocol.specs.Known.{Known, Response, front}
 use Rattle.group_protocol.specs.LearnerRows.{tell_packet}
 use Rattle.group_protocol.specs.Packets.{Packet, to_all, to_one}
 use Rattle.group_protocol.specs.Protocol.{on_message, row}
@@ -28,7 +26,7 @@ use Rattle.group_protocol.specs.Tick.{accept_again, accepts_again, asks, asks_ag
 use Rattle.group_protocol.specs.WaitingKeys.{batch_of, count_gone}
 use Rattle.group_progress.proofs.Acceptors.{TestLaws, promises}
 use Rattle.group_progress.proofs.Learning.{not_passed}
-use Rattle.group_world.proofs.OrderLists.{of_filter_map}
+use Rattle.group_rules.proofs.Lists.{of_filter_map}
 use Rattle.group_progress.proofs.Pumps.{rests}
 
 -- a proposer under the ballot that keeps and has proposed nothing

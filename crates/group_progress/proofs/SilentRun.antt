@@ -12,7 +12,7 @@ use Rattle.group_world.specs.Group.{World, world_state}
 use Rattle.group_progress.specs.Fair.{Outranks}
 use Rattle.group_progress.proofs.Acceptors.{TestLaws}
 use Rattle.group_progress.proofs.Going.{EventLaws}
-use Rattle.group_world.proofs.OrderLists.{in_from_place}
+use Rattle.group_rules.proofs.Lists.{in_from_place}
 use Rattle.group_progress.proofs.Silent.{IsSilent, IsSilentBody, hears_silent, is_submit, silent_heard, ticks_silent}
 use Rattle.group_progress.proofs.Quiet.{Next, Quiet, everyone, hears_so, ticks_so}
 

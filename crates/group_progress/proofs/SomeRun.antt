@@ -47,7 +47,7 @@ use Rattle.group_world.specs.declared.event.Act.{Act}
 use Rattle.group_progress.specs.Stuck.{HasStuckRun, HearsAll, HearsAllButSubmits, IsLedCalmly}
 use Rattle.group_progress.proofs.FirstWorld.{FirstWorld, IsFresh, TypedWorld, count_all, fresh_silent}
 use Rattle.group_progress.proofs.Hearing.{same_place}
-use Rattle.group_world.proofs.OrderLists.{in_from_place}
+use Rattle.group_rules.proofs.Lists.{in_from_place}
 use Rattle.group_progress.proofs.Reading.{HasKey}
 
 -- a node that has learned nothing has read nothing

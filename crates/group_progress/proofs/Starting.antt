@@ -25,11 +25,14 @@ use Rattle.group_progress.proofs.Chasing.{slice_some}
 use Rattle.group_progress.proofs.Onward.{LearnLaws}
 use Rattle.group_progress.proofs.Within.{stay, then, within}
 use Rattle.group_progress.proofs.Cycle.{MoreLaws}
-use Rattle.group_progress.proofs.Going.{EventLaws, Good, few_by, heard_by}
-use Rattle.group_world.proofs.OrderLists.{of_flat_map, of_range}
+use Rattle.group_progress.proofs.Going.{EventLaws, Good, deed_good, heard_by}
+use Rattle.group_rules.proofs.Lists.{of_flat_map, of_range}
 use Rattle.group_progress.proofs.Proposers.{AreBelow}
 use Rattle.group_progress.proofs.Steps.{each_within, starts, still}
-use Rattle.group_progress.proofs.TalliesStay.{IsRightMember, TalliesRight, tallies_stay}
+use Rattle.group_progress.proofs.NodesStay.{OfMember}
+use Rattle.group_progress.proofs.Tallies.{AreRight}
+use Rattle.group_progress.proofs.TalliesStay.{TalliesRight}
+use Rattle.group_progress.proofs.Unread.{AreUnread, IsUnreadAt}
 use Rattle.group_world.proofs.WorldAsGroup.{first_node, running}
 
 -- ---- worlds that are reached
@@ -38,11 +41,7 @@ pub happens_good : EventLaws → (w : World) (events : List Event) (v : World) �
 happens_good laws w [] v good is = subst Good (sym is) good
 happens_good laws w (e ∷ events) v good (mid, d, goes, rest) =
     let heard = heard_by w.group w.sent e.act goes.deed goes.is_deed in
-    let sound = laws.sound w mid _ _ goes.deed d good.holds.sound heard goes.does in
-    let ordered = laws.ordered w mid _ _ goes.deed d good.holds.sound sound good.holds.ordered goes.does in
-    let tallies = tallies_stay w mid _ _ goes.deed d good.tallies
-    (few_by w.group w.sent goes.deed good.holds.sound.spelled good.holds.sound.size.few heard) goes.does in
-    happens_good laws mid events v (record { holds = record { sound = sound; ordered = ordered }; tallies = tallies }) rest
+    happens_good laws mid events v (deed_good laws w mid _ _ goes.deed d good heard goes.does) rest
 
 -- the same of a sound world alone
 pub happens_sound : ((w v : World) (i : ℕ) (plan : Option Bool) (deed : Deed) (d : Done) → IsSound w → HearsOf w.group w.sent deed →
@@ -53,7 +52,12 @@ happens_sound law w (e ∷ events) v sound (mid, d, goes, rest) =
     happens_sound law mid events v (law w mid _ _ goes.deed d sound (heard_by w.group w.sent e.act goes.deed goes.is_deed) goes.does) rest
 
 pub first_tallies : (p : Parts) (group : Group) → TalliesRight (new_world p group)
-first_tallies p group = record { members = λ i m at. subst IsRightMember (first_node p group i m at) tt }
+first_tallies p group = record {
+  members = λ i m at. subst (λ (x : Member). IfSome x.node (λ (q : Running). AreRight q.known.learner)) (first_node p group i m at) tt;
+}
+
+pub first_unread : (p : Parts) (group : Group) → AreUnread (new_world p group)
+first_unread p group i m at = subst (OfMember IsUnreadAt) (first_node p group i m at) tt
 
 -- ---- nodes that start
 
@@ -75,7 +79,7 @@ module _ (more : MoreLaws) (learn : LearnLaws) (members : ℕ → Bool) (w : Wor
     pub fine : Good v
     pub group : v.group ≡ w.group
     pub late : count ≤ length (world_state v).sent
-    pub todo : (j : ℕ) → k < j → member_at v.members j ≡ member_at w.members j
+    pub ahead : (j : ℕ) → k < j → member_at v.members j ≡ member_at w.members j
 
   member_of_node : (i : ℕ) → 0 < i → i ≤ w.group.size → (m : Member) × (member_at w.members i ≡ Some m)
   member_of_node zero some low = absurd (omega (arith, some))
@@ -87,7 +91,7 @@ module _ (more : MoreLaws) (learn : LearnLaws) (members : ℕ → Bool) (w : Wor
   start_one k v low own r =
       let i : ℕ = suc k in
       let (m, at) = member_of_node i (omega arith) low in
-      let there : member_at v.members i ≡ Some m = r.todo i (omega arith) ∙ at in
+      let there : member_at v.members i ≡ Some m = r.ahead i (omega arith) ∙ at in
       by m at there (left.nodes i m own at) (few i m own at) m.node refl where
         by : (m : Member) → member_at w.members (suc k) ≡ Some m → member_at v.members (suc k) ≡ Some m → HasLeft left.top m →
             left.top ≤ learned_to m.node + gap → (o : Option Running) → m.node ≡ o
@@ -98,7 +102,7 @@ module _ (more : MoreLaws) (learn : LearnLaws) (members : ℕ → Bool) (w : Wor
             let sound = running r.fine.holds.sound is_up in
             let waits : keys (suc k) ≡ waiting_keys q.known = ap waiting_of at ∙ ap waiting_at up in
             within (stay (
-              record { fine = r.fine; group = r.group; late = r.late; todo = λ j above. r.todo j (omega (arith, above)) },
+              record { fine = r.fine; group = r.group; late = r.late; ahead = λ j above. r.ahead j (omega (arith, above)) },
               record {
                 known = q.known;
                 has = record { node = m; progress = q.progress; there = there; up = up };
@@ -118,7 +122,7 @@ module _ (more : MoreLaws) (learn : LearnLaws) (members : ℕ → Bool) (w : Wor
                 fine = s.good;
                 group = s.group ∙ r.group;
                 late = omega (arith, r.late, ap (λ (sent : Sent). length sent) s.sent ∙ length-append (world_state v).sent []);
-                todo = λ j above. s.others j (λ is. absurd (omega (arith, above, is))) ∙ r.todo j (omega (arith, above));
+                ahead = λ j above. s.others j (λ is. absurd (omega (arith, above, is))) ∙ r.ahead j (omega (arith, above));
               },
               record {
                 known = (on_start (me_of v (suc k)) m.kept).node;
@@ -141,7 +145,7 @@ module _ (more : MoreLaws) (learn : LearnLaws) (members : ℕ → Bool) (w : Wor
             ))) (omega arith) (omega arith)
 
   skip_one : (k : ℕ) (v : World) → ¬ IsTrue (members (suc k)) → Rest k v → Rest (suc k) v
-  skip_one k v none r = record { fine = r.fine; group = r.group; late = r.late; todo = λ j above. r.todo j (omega (arith, above)) }
+  skip_one k v none r = record { fine = r.fine; group = r.group; late = r.late; ahead = λ j above. r.ahead j (omega (arith, above)) }
 
   -- a key that waits, waits at one of the nodes
   waits_at : (key : Key) → Contains (keys_waiting members w) key → (i : ℕ) × (0 < i) × (i ≤ w.group.size) × IsTrue (members i) ×
@@ -159,7 +163,7 @@ module _ (more : MoreLaws) (learn : LearnLaws) (members : ℕ → Bool) (w : Wor
       (most_messages w.group.size gap (length (keys_waiting members w))) members w
       (AllHaveCaughtUp members w.group.size (keys_waiting members w))
   all_read =
-      let start : Rest 0 w = record { fine = good; group = refl; late = omega arith; todo = λ j above. refl } in
+      let start : Rest 0 w = record { fine = good; group = refl; late = omega arith; ahead = λ j above. refl } in
       within ((then) (each_within w.group.size 1 0 Rest (λ i v. UpReady keys left.top gap v i) skip_one start_one w start)
       (λ v all.
       let r = all.0 in

@@ -35,7 +35,7 @@ use Rattle.group_progress.proofs.Covered.{at_more, fits_heard, known_of}
 use Rattle.group_progress.proofs.Going.{EventLaws, Good, fits_me}
 use Rattle.group_progress.proofs.Hearing.{hears_it, made_sends, sends_it}
 use Rattle.group_progress.proofs.Learners.{told}
-use Rattle.group_world.proofs.OrderLists.{in_from_place}
+use Rattle.group_rules.proofs.Lists.{in_from_place}
 use Rattle.group_progress.proofs.Promising.{all_low, stays, ticks_at}
 use Rattle.group_progress.proofs.Runs.{AtWith, good_at}
 use Rattle.group_progress.proofs.KeysKept.{KeyLaws}
@@ -205,7 +205,7 @@ module _ (tell : TellLaws) (laws : EventLaws) (tests : TestLaws)
       let low : s < front_of la = omega (arith, slice_get_within (front_values la) s x e, reads.many la (front_of la) (omega arith)) in
       let at : get la s ≡ Some x = sym (reads.at_place la (front_of la) s (omega arith) low) ∙ e in
       let (u, there) = some_at lb s ((reads.front lb).below s (omega (arith, low, far))) in
-      let one : x ≡ u = reads.agree v good.holds.sound j i s x u (has_learned first s x (more.stays s x at))
+      let one : x ≡ u = reads.agree (world_state v) good.holds.rules j i s x u (has_learned first s x (more.stays s x at))
       (has_learned second s u there) in
       reads.at_place lb (front k) s (omega arith) (omega (arith, low, far)) ∙ there ∙ ap Some (sym one)) in
       let (longer, all) = keys.more_keys (front_values la) rest in

@@ -20,7 +20,7 @@ use Rattle.group_protocol.specs.Protocol.{on_message}
 use Rattle.group_protocol.specs.ProposerRows.{is_known, is_known_key, offer_after, offering, submitted}
 use Rattle.group_protocol.specs.Pump.{pump}
 use Rattle.group_protocol.specs.WaitingKeys.{waiting_keys}
-use Rattle.group_world.specs.Ordered.{IsFirstUnread}
+use Rattle.group_progress.proofs.Unread.{IsFirstUnread}
 use Rattle.group_progress.proofs.Acceptors.{TestLaws}
 use Rattle.group_progress.proofs.Calm.{IsSteady}
 use Rattle.group_progress.proofs.KeysKept.{KeyLaws, Shrinks, read_on, shrink_after, shrink_ticked}

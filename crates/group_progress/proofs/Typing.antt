@@ -18,7 +18,7 @@ use Rattle.group_world.specs.Event.{Goes, kept_event, world_after}
 use Rattle.group_world.specs.Group.{IsUp, World, me_of, member_at}
 use Rattle.group_world.specs.Member.{Member, member_after_call}
 use Rattle.group_world.specs.Sound.{IsSound}
-use Rattle.group_world.proofs.OrderLists.{in_flat_map, in_range}
+use Rattle.group_rules.proofs.Lists.{in_flat_map, in_range}
 use Rattle.group_world.proofs.WorldAsGroup.{changed_elsewhere, changed_here, each_changed, is_node, running}
 use Rattle.group_progress.specs.GoingOn.{HasLeft, HasRoundAbove, HaveLeft, HaveLeftFor, waiting_at, keys_waiting, waiting_of}
 use Rattle.group_progress.proofs.CountedKeys.{one_key_more}

@@ -42,7 +42,7 @@ use Rattle.group_progress.proofs.Hearing.{hears_it, made_sends, sends_it}
 use Rattle.group_progress.proofs.Lasting.{HasProposal, IsFirst, IsNextAbove, LeadsWith, first_lasts, leads_more, leads_of, next_lasts, proposal_lasts}
 use Rattle.group_progress.proofs.Learners.{hears_accepted, learned_by}
 use Rattle.group_progress.proofs.Moments.{LeadsAt, inv_at, leads_stay, may_join_at, opened, right_at}
-use Rattle.group_world.proofs.OrderLists.{in_from_place}
+use Rattle.group_rules.proofs.Lists.{in_from_place}
 use Rattle.group_progress.proofs.Promising.{Agreed, agreed_steady, all_low, all_promise, stays, ticks_at}
 use Rattle.group_progress.proofs.Runs.{AtWith, good_at, group_at}
 use Rattle.group_progress.proofs.Stages.{Stays, all_later, from_then, later_then, now}

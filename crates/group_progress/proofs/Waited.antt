@@ -1,12 +1,12 @@
 -- In a fair run each key that waits at a node of the majority is read by all of them.
-use Rattle.std.proofs.Common.{append_assoc, append-nil, ◌≡◌, ◌∙◌, ◌⊎◌, inl, inr, ℕ, zero, suc, ◌+◌, ◌<◌, ◌≤◌, Bool, IsTrue, Contains, List, [], ◌∷◌, ◌++◌, take, Option, Some, None, IfSome, if◌then◌else◌, refl, sym, ap, subst, arith, true, false}
+use Rattle.std.proofs.Common.{append_assoc, append-nil, ◌≡◌, ◌∙◌, ◌⊎◌, inl, inr, ℕ, zero, suc, ◌+◌, ◌<◌, ◌≤◌, Bool, IsTrue, Contains, List, [], ◌∷◌, ◌++◌, Some, None, IfSome, if◌then◌else◌, refl, sym, ap, subst, arith, true, false}
 use Rattle.std.specs.List.{range_with_len}
 use Rattle.std.proofs.lemmas.Bool.{cases_Bool, or_cases}
 use Rattle.std.proofs.lemmas.List.Elements.{All-nil}
 use Rattle.std.specs.FinMap.{FinMap, get}
 use Rattle.std.specs.Ordering.{nat_cmp}
 use Rattle.paxos_msg.specs.declared.ballot.Ballot.{Ballot}
-use Rattle.paxos_msg.specs.declared.limits.TheConstants.{LAST_PLACE, MOST_CHARACTERS, PLACES}
+use Rattle.paxos_msg.specs.declared.limits.TheConstants.{LAST_PLACE, PLACES}
 use Rattle.paxos_msg.specs.declared.message.Body.TheVariants.{Accept, Ask, Submit}
 use Rattle.paxos_msg.specs.declared.value.Value.{Value}
 use Rattle.paxos_msg.specs.Ballots.{IsMajority}
@@ -23,27 +23,26 @@ use Rattle.group_protocol.specs.Packets.{to_all}
 use Rattle.group_protocol.specs.Protocol.{on_message}
 use Rattle.group_protocol.specs.ProposerRows.{is_known_key}
 use Rattle.group_protocol.specs.Tick.{asks, on_tick, submits}
-use Rattle.group_protocol.specs.Packets.{to_all}
-use Rattle.group_protocol.specs.WaitingKeys.{batch_of, waiting_keys}
+use Rattle.group_protocol.specs.WaitingKeys.{waiting_keys}
 use Rattle.group_node.specs.Deeds as deed
 use Rattle.group_node.specs.NodeCalls.{Running}
 use Rattle.group_world.specs.declared.event.Act.TheVariants as act
 use Rattle.group_world.specs.Event.{DoesAt}
 use Rattle.group_world.specs.Group.{IsUp, member_at, World, world_state}
 use Rattle.group_world.specs.Member.{Member}
-use Rattle.group_world.specs.Ordered.{IsRowOf}
+use Rattle.group_progress.proofs.Unread.{IsUnreadAt}
 use Rattle.group_progress.specs.GoingOn.{AllHaveRead, HasRead, waiting_at, keys_waiting, waiting_of}
 use Rattle.group_progress.specs.Fair.{AllIsRead, Endless, IsFair, IsLed, Later}
 use Rattle.group_world.proofs.WorldAsGroup.{changed_here, running}
 use Rattle.group_progress.proofs.Calm.{IsSteady, UpWith, made_leaves}
 use Rattle.group_progress.proofs.Covered.{IsCoveredBy, at_more, covered_stays, known_of}
-use Rattle.group_progress.proofs.Cycle.{MoreLaws}
+use Rattle.group_progress.proofs.Cycle.{MoreLaws, first_batch}
 use Rattle.group_progress.proofs.Acceptors.{TestLaws}
 use Rattle.group_progress.proofs.Going.{EventLaws, Good, fits_me}
 use Rattle.group_progress.proofs.Hearing.{hears_it, made_sends, sends_it}
 use Rattle.group_progress.proofs.Lasting.{AreProposed, HasProposal, IsKeptOrProposed, IsNextAbove, LeadsWith, next_lasts, proposal_lasts, proposed_lasts}
 use Rattle.group_progress.proofs.Moments.{LeadsAt, first_keeps, leads_stay, one_running, opened}
-use Rattle.group_world.proofs.OrderLists.{of_flat_map, of_range}
+use Rattle.group_rules.proofs.Lists.{of_flat_map, of_range}
 use Rattle.group_progress.proofs.Promising.{all_low, stays, ticks_at}
 use Rattle.group_progress.proofs.Reading.{HasKey, read_at}
 use Rattle.group_progress.proofs.Rising.{backed_at, covered_is, covered_later, learned_kept, next_room, proposed_later, same_value_at}
@@ -63,15 +62,6 @@ pub record FairLaws : Type 0 where
 -- a value is learned at a place
 abbrev pub HasLearnedAt : ℕ → Value → Known → Type 0
 HasLearnedAt s v n = get n.learner.learned s ≡ Some v
-
--- the first keys that wait are a batch
-first_batch : (more : MoreLaws) (n : Known) (k : Key) (rest : List Key) → waiting_keys n ≡ k ∷ rest
-    → (v : Value) × (batch_of n n.waiting ≡ Some v) × ((others : List Key) × (keys_of v ≡ k ∷ others))
-first_batch more n k rest e = by (batch_of n n.waiting) refl where
-  by : (o : Option Value) → batch_of n n.waiting ≡ o
-      → (v : Value) × (batch_of n n.waiting ≡ Some v) × ((others : List Key) × (keys_of v ≡ k ∷ others))
-  by None at = let no : k ∷ rest ≡ [] = sym e ∙ more.no_batch n at in absurd cc
-  by (Some v) at = (v, at, (take 31 rest, more.batch n v at ∙ ap (take MOST_CHARACTERS) e))
 
 module _ (fl : FairLaws) where
   -- the laws of fronts
@@ -326,12 +316,11 @@ module _ (fl : FairLaws) {members : ℕ → Bool} {leader : ℕ} {b : Ballot} {w
         let (q, up, ends) = does.does in
         let is_up : IsUp (run.world (suc t)) i does.node q = record { there = does.there; up = up } in
         let still = from_then Turn turn_stays n t later turn in
-        let holds = (good_at events run good (suc t)).holds in
-        let row : IsRowOf (world_state (run.world (suc t))).typed i does.node.kept q.known =
-        subst (λ o. IfSome o (λ (q : Running). IsRowOf (world_state (run.world (suc t))).typed i does.node.kept q.known)) up
-        (holds.ordered.keys.nodes i does.node does.there) in
+        let sound = (good_at events run good (suc t)).holds.sound in
+        let first = subst (λ o. IfSome o (λ (q : Running). IsUnreadAt q.known)) up
+        ((good_at events run good (suc t)).unread i does.node does.there) in
         elim (turn_of pre post k q.known (known_of {K = Begins (pre ++ k ∷ post)} still.0 does.there up)
-        (known_of {K = AreRead pre} still.1 does.there up) row.row.first) [
+        (known_of {K = AreRead pre} still.1 does.there up) first) [
           | inl read ↦ (
             t,
             later,
@@ -343,7 +332,7 @@ module _ (fl : FairLaws) {members : ℕ → Bool} {leader : ℕ} {b : Ballot} {w
           )
           | inr (rest, waits) ↦
               let (v, batch, (others, keys)) = first_batch fl.more q.known k rest waits in
-              let fits = fits_me holds.sound is_up (events.fits_tick q.known (running holds.sound is_up).ranges) in
+              let fits = fits_me sound is_up (events.fits_tick q.known (running sound is_up).ranges) in
               let among_asks : Contains (asks q.known) (to_all (Submit v)) =
               subst (λ o. Contains (submits o ++ to_all (Ask (front q.known)) ∷ []) (to_all (Submit v))) (sym batch)
               (first_in (to_all (Submit v)) (to_all (Ask (front q.known)) ∷ [])) in

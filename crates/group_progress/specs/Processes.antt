@@ -1,6 +1,6 @@
 -- Processes that go on: deeds of the processes of some nodes lead from one log to a longer one.
 use Rattle.std.specs.Prelude.{◌≡◌, ℕ, Bool, IsTrue, All, List, []}
-use Rattle.group_node.specs.Deeds.{Campaign, Crash, Deed, Hear, Idle, Press, Release, Run, Start, Tick}
+use Rattle.group_node.specs.Deeds.{Crash, Deed, Press}
 use Rattle.group_world.specs.declared.event.Outcome.TheVariants.{Kept}
 use Rattle.group_world.specs.Group.{World}
 use Rattle.group_world.specs.Member.{Member}

@@ -31,13 +31,12 @@ pub use fair::{
     fair_runs_need_submits, fair_runs_need_ticks, fair_runs_promise, fair_runs_propose,
     fair_runs_read, fair_runs_show, some_run_is_fair,
 };
-use group_node::laws::input_is_chosen;
 use group_protocol::laws::{
     calls_keep_what_is_learned, waiting_keys_are_a_row, what_goes_out_fits,
 };
+use group_rules::laws::{claims_follow, next_keys_are_new};
 use group_world::laws::{
-    deeds_keep_it_sound, deeds_keep_order, events_are_processes, processes_are_events,
-    sound_worlds_agree,
+    deeds_keep_it_sound, deeds_keep_what_holds, events_are_processes, processes_are_events,
 };
 use paxos_learner::laws::{
     input_grows, key_tests_are_exact, keys_are_read_once, learned_stays, one_front,
@@ -62,9 +61,9 @@ pub fn all_is_read_within()
         (most_messages w.group.size k (length (keys_waiting members w))) members w
         (AllHaveCaughtUp members w.group.size (keys_waiting members w)) }
 {
-    deeds_keep_it_sound();
-    deeds_keep_order();
-    sound_worlds_agree();
+    deeds_keep_what_holds();
+    claims_follow();
+    next_keys_are_new();
     what_goes_out_fits();
     waiting_keys_are_a_row();
     calls_keep_what_is_learned();
@@ -131,11 +130,11 @@ pub fn no_console_is_stuck()
         → IsSize group.size → IsGroup group → LeadsBy (new_world p group) events w
         → AllMayShow members w }
 {
-    deeds_keep_it_sound();
-    deeds_keep_order();
+    deeds_keep_what_holds();
+    claims_follow();
+    next_keys_are_new();
     what_goes_out_fits();
-    input_is_chosen();
-    values_are_learned();
+    waiting_keys_are_a_row();
     output_only_grows();
     prefixes_are_ordered();
     spelling_is_read();
@@ -151,11 +150,11 @@ pub fn all_is_read_and_shown()
         (AllHaveReadAndShown members w.group.size (keys_waiting members w) steps) }
 {
     no_world_is_stuck();
-    deeds_keep_it_sound();
-    deeds_keep_order();
+    deeds_keep_what_holds();
+    claims_follow();
+    next_keys_are_new();
     what_goes_out_fits();
-    input_is_chosen();
-    values_are_learned();
+    waiting_keys_are_a_row();
     output_only_grows();
     prefixes_are_ordered();
     spelling_is_read();

@@ -1,8 +1,9 @@
--- Elements of lists that are written out, maps of nothing and of one value, and sets of nodes.
-use Rattle.std.proofs.lemmas.List.Elements.{All-contains, All-from_recursion, Contains-append_cases, Contains-append_right}
+-- Elements of lists that are written out and of images of lists, maps of nothing and of one value,
+-- and sets of nodes.
+use Rattle.std.proofs.lemmas.List.Elements.{All-contains, All-from_recursion, All-map, All-nil, Contains-append_cases, Contains-append_right, Contains-get_or}
 use Rattle.std.proofs.lemmas.List.{nil_from_length}
-use Rattle.std.specs.List.{AllByRecursion as EachOf, Contains}
-use Rattle.std.proofs.Common.{◌≡◌, ◌⊎◌, ◌∙◌, ◌+◌, ◌≤◌, IsTrue, Bool, ℕ, zero, suc, List, [], ◌∷◌, inl, inr, refl, sym, arith}
+use Rattle.std.specs.List.{All, AllByRecursion as EachOf, Contains, filter_map}
+use Rattle.std.proofs.Common.{◌≡◌, ◌⊎◌, ◌∙◌, ◌+◌, ◌≤◌, IsTrue, Bool, ℕ, zero, suc, List, [], ◌∷◌, get_or, map, Option, IfSome, inl, inr, refl, sym, arith}
 use Rattle.std.specs.Ordering.{nat_cmp}
 use Rattle.std.specs.FinMap.{empty, entries, entries-insert, insert, len-empty, len-entries}
 use Rattle.std.specs.Cmp.{nat_cmp_total}
@@ -29,6 +30,21 @@ in_cases x xs y h = elim (Contains-append_cases (x ∷ []) xs y h) [ inl e ↦ i
 -- what holds of each of these, as a tuple, holds of one of them
 pub each_of : {X : Type 0} (P : X → Type 0) (xs : List X) (x : X) → EachOf P xs → Contains xs x → P x
 each_of P xs x each among = All-contains P xs x (All-from_recursion P xs each) among
+
+-- an element of the images of a list is the image of one of its elements
+pub of_map : {X Y : Type 0} (f : X → Y) (xs : List X) (y : Y) → Contains (map f xs) y → (x : X) × Contains xs x × (f x ≡ y)
+of_map {X} {Y} f xs y h =
+    let IsImage : Y → Type 0 = λ y. (x : X) × Contains xs x × (f x ≡ y) in
+    All-contains IsImage (map f xs) y (All-map IsImage f xs (λ k d below. (get_or xs k d, Contains-get_or xs k d below, refl))) h
+
+-- what holds of each image that there is holds of all
+pub all_images : {X Y : Type 0} (P : Y → Type 0) (f : X → Option Y) (xs : List X) → ((x : X) → Contains xs x → IfSome (f x) P)
+    → All P (filter_map f xs)
+all_images P f [] h = All-nil P
+all_images P f (x ∷ xs) h =
+    let first = h x (first_in x xs) in
+    let rest = all_images P f xs (λ y among. h y (rest_in x xs y among)) in
+    grind (arith, nat_tests)
 
 -- ---- maps
 

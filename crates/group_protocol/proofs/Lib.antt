@@ -7,3 +7,4 @@ mod Pumping
 mod NodeBackedAsMoreIsSent
 mod Saving
 mod WaitingKeys
+mod Submits

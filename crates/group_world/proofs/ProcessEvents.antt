@@ -17,7 +17,7 @@ use Rattle.group_world.specs.Member.{Member}
 use Rattle.group_world.specs.Processes.{AreEventsOf, AreEventsOfEntry, DoesEntry, Entry, IsCarried, IsHistory, IsLog, after_log, entries_of, left_by, sent_in, typed_in, MayBeLogged, HasMoment}
 use Rattle.group_world.proofs.CallLeaves.{idle_leads}
 use Rattle.group_world.proofs.WorldAsGroup.{each_changed, changed_here, changed_elsewhere}
-use Rattle.group_world.proofs.HoldsAfterEvents.{happens_then, heard_by}
+use Rattle.group_world.proofs.Happens.{happens_then, heard_by}
 
 -- ---- one entry
 
@@ -82,7 +82,7 @@ member_there members now (suc k) last long at =
     (get_or members k last, slice_get-get_or members k last (omega (arith, slice_get_within now k last at)))
 
 -- the nodes and what was sent and typed are the same, the one way or the other
-after_both : (w : World) (e : Entry) (log : List Entry) (now : List Member) (mid : Member)
+pub after_both : (w : World) (e : Entry) (log : List Entry) (now : List Member) (mid : Member)
     → after_log (moved w e mid) log now ≡ after_log w (e ∷ log) now
 after_both w e log now mid = rw (append_assoc w.sent e.sent (sent_in log), append_assoc w.typed e.typed (typed_in log)) refl
 

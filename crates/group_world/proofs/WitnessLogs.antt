@@ -19,11 +19,11 @@ use Rattle.group_protocol.specs.Pump.{pump}
 use Rattle.group_world.specs.Event.{kept_event}
 use Rattle.group_world.specs.Group.{new_world}
 use Rattle.group_world.specs.KeyLog.{ballot, key_events, letter_value, node_1, node_2, node_3, promised_record, voted_record}
-use Rattle.group_world.specs.Witness.{echoes, letter_batch, one, shown_events, letter_program}
+use Rattle.group_rules.specs.SmallPrograms.{echoes, letter_program}
+use Rattle.group_world.specs.Witness.{letter_batch, one, shown_events}
 use Rattle.group_world.specs.WrittenLogs.{started_times, three_nodes}
-use Rattle.group_world.proofs.ChainedSteps.{own_keys}
-use Rattle.group_world.proofs.SmallPrograms.{StepsLaw, echoes_first, writes_letter}
-use Rattle.group_world.proofs.OrderPossible.{me}
+use Rattle.group_rules.proofs.WrittenVotes.{own_keys}
+use Rattle.group_rules.proofs.SmallPrograms.{StepsLaw, echoes_first, writes_letter}
 use Rattle.group_world.proofs.WorldAsGroup.{ReadLaw, stopped}
 use Rattle.group_world.proofs.WrittenLogs.{◌▸◌, AreNumbered, Ran, Said, campaigns, hears, numbered, presses, releases, runs, starts, stop, ticks, crashes, fails, asking, campaigns_so, fresh, prepares, promised, unsaved}
 use Rattle.group_protocol.proofs.Elements.{entries_none, entries_one}
@@ -33,6 +33,9 @@ use Rattle.group_world.specs.declared.event.Act.TheVariants.{Release, Run, Start
 use Rattle.group_world.specs.declared.event.Event.{Event}
 
 -- ---- the nodes
+
+abbrev pub me : Me
+me = record { node = 1; group = one }
 
 -- a node that has started, and one that has promised
 abbrev begun : Me → Known

@@ -28,8 +28,8 @@ use Rattle.group_node.specs.NodeCalls.{Makes, call_of_campaign, call_of_press, c
 use Rattle.group_world.specs.Member.{Member, member_after_call, member_after_release, RunsMember}
 use Rattle.group_world.specs.Processes.{after_log, AreEventsOf, DoesEntry, Entry, IsLog, quiet_entry}
 use Rattle.group_world.specs.WrittenLogs.{entry_with, hear_entry, node_in, press_entry, start_after, started_times, first_ballot}
-use Rattle.group_world.proofs.SmallPrograms.{StepsLaw, WritesLetter, replays, runs as runs_on, ten_of, waits}
-use Rattle.group_world.proofs.HoldsAfterEvents.{heard_by}
+use Rattle.group_rules.proofs.SmallPrograms.{StepsLaw, WritesLetter, replays, runs as runs_on, ten_of, waits}
+use Rattle.group_world.proofs.Happens.{heard_by}
 use Rattle.group_world.proofs.ProcessEvents.{events_lead, log_before, moved, no_log}
 use Rattle.group_world.proofs.WorldAsGroup.{ReadLaw, packet_read, stopped}
 use Rattle.paxos_msg.specs.declared.message.Body.TheVariants.{Ask, Prepare}

@@ -6,14 +6,9 @@ pub mod Headline
 pub mod Processes
 pub mod Timed
 pub mod Sound
-pub mod Order
-pub mod Ordered
 pub mod Refusals
 pub mod Scripts
-pub mod WrongWorlds
 pub mod Witness
 pub mod WrittenLogs
 pub mod WrongLogs
 pub mod KeyLog
-pub mod WrongGroups
-pub mod RightGroups

@@ -1,6 +1,6 @@
 -- Processes that are the nodes of a group: what each of them did, in one order of time, over stores
 -- that keep their records and a network that carries what was sent.
-use Rattle.std.specs.Prelude.{◌≡◌, ◌≢◌, ℕ, ◌==◌, ◌≤◌, List, [], ◌∷◌, ◌++◌, length, filter, flat_map, take, Some}
+use Rattle.std.specs.Prelude.{◌≡◌, ◌≢◌, ℕ, ◌==◌, List, [], ◌∷◌, ◌++◌, length, filter, flat_map, Some}
 use Rattle.std.specs.List.{AllByRecursion}
 use Rattle.pcode_file.specs.Parts.{Parts}
 use Rattle.paxos_msg.specs.declared.message.Group.{Group}
@@ -10,7 +10,7 @@ use Rattle.paxos_acceptor.specs.declared.me.Me.{Me}
 use Rattle.group_node.specs.Deeds.{Deed, Idle}
 use Rattle.group_protocol.specs.Packets.{Datagram}
 use Rattle.group_protocol.specs.States.{IsSize}
-use Rattle.group_node.specs.World.{Up, WorldState}
+use Rattle.group_rules.specs.Rules.{WorldState}
 use Rattle.group_world.specs.declared.event.Done.{Done}
 use Rattle.group_world.specs.declared.event.Event.{Event}
 use Rattle.group_world.specs.declared.event.Outcome.{Outcome}
@@ -134,15 +134,6 @@ AlwaysLaterOfProcesses P =
     → IsLog (after_log (new_world p group) log mid) more now
     → P (world_state (after_log (new_world p group) log mid))
     (world_state (after_log (after_log (new_world p group) log mid) more now))
-
--- What a node that is up has released is on its console: the first bytes of both are the same.
--- Allows: a console that shows more, from an earlier start.
--- Forbids: a released byte that the console does not have.
-abbrev pub ConsolesShowReleased : WorldState → Type 0
-ConsolesShowReleased w =
-    (i : ℕ) (node : Up) → (w.seats i).up ≡ Some node
-    → (node.released ≤ length (w.seats i).console)
-    × (take node.released node.configuration.output ≡ take node.released (w.seats i).console)
 
 -- The claim that a log of processes, with these events, leads from a group to another.
 -- Forbids: an idle entry, which is no event.

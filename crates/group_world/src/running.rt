@@ -4,8 +4,8 @@ ghost use Rattle.group_protocol.specs.States.{IsSize};
 ghost use Rattle.group_world.specs.Event.{LeadsBy};
 ghost use Rattle.group_world.specs.Group.{new_world, world_state};
 ghost use Rattle.group_world.specs.Refusals.{IsRunRefused};
-ghost use Rattle.group_world.specs.Headline.{ConsolesAgree, ConsolesHoldOutput, HasNoGap, LearnedAgree, LearnedChosen};
-ghost use Rattle.group_world.specs.Order.{KeysOnce, SerialsInOrder};
+ghost use Rattle.group_rules.specs.Claims.{ConsolesAgree, ConsolesHoldOutput, HasNoGap, LearnedAgree, LearnedChosen};
+ghost use Rattle.group_rules.specs.Claims.{KeysOnce, SerialsInOrder};
 
 use crate::event::Event;
 use crate::fault::RunFault;

@@ -4,18 +4,16 @@ ghost use Rattle.group_protocol.specs.States.{IsSize};
 ghost use Rattle.group_world.specs.Group.{member_at, new_world, world_state};
 ghost use Rattle.group_node.specs.NodeCalls.{running};
 ghost use Rattle.group_world.specs.Refusals.{Applies};
-ghost use Rattle.group_world.specs.Headline.{ConsolesAgree, ConsolesGrow, ConsolesHoldOutput, HasNoGap, LearnedAgree, LearnedChosen, LearnedStays};
-ghost use Rattle.group_world.specs.Order.{KeysOnce, SerialsInOrder};
+ghost use Rattle.group_rules.specs.Claims.{ConsolesAgree, ConsolesGrow, ConsolesHoldOutput, HasNoGap, LearnedAgree, LearnedChosen, LearnedStays};
+ghost use Rattle.group_rules.specs.Claims.{KeysOnce, SerialsInOrder};
 
 use crate::event::{Done, Event};
 use crate::fault::WorldFault;
 use crate::group::GroupState;
-use crate::laws::{
-    deeds_keep_it_sound, deeds_keep_order, ordered_worlds_are_orderly, sound_worlds_agree,
-};
+use crate::laws::{deeds_keep_it_sound, worlds_follow_the_rules};
 use group_node::{Node, Packet};
+use group_rules::laws::{claims_follow, steps_keep_it};
 use paxos_acceptor::MemoryStore;
-use paxos_msg::laws::{agreement, sent_only_grows};
 use paxos_msg::limits::MOST_NODES;
 use paxos_msg::{Group, Record, Value};
 use pcode_ops::Program;
@@ -38,7 +36,7 @@ impl<'a> Drop for World<'a> {
 impl<'a> Model for World<'a> {
     ghost use Rattle.std.specs.Coded.{codes};
     ghost use Rattle.paxos_learner.specs.Codes.{learner_code};
-    ghost use Rattle.group_world.specs.Ordered.{Holds};
+    ghost use Rattle.group_world.specs.Sound.{Holds};
     ghost use Rattle.group_world.specs.Group as state;
 
     ghost Value = { state.World };
@@ -68,7 +66,8 @@ impl<'a> World<'a> {
         ensures others { IfErr result (λ e. (e ≡ WorldFault.Size) ⊎ (e ≡ WorldFault.Memory)) }
     {
         deeds_keep_it_sound();
-        deeds_keep_order();
+        worlds_follow_the_rules();
+        steps_keep_it();
         if size % 2 == 0 || size > MOST_NODES {
             return Err(WorldFault::Size);
         }
@@ -100,11 +99,7 @@ impl<'a> World<'a> {
         ensures serials_in_order { SerialsInOrder (world_state self.new) }
     {
         deeds_keep_it_sound();
-        deeds_keep_order();
-        sound_worlds_agree();
-        ordered_worlds_are_orderly();
-        agreement();
-        sent_only_grows();
+        claims_follow();
         if let Some(fault) = self.group.refusal(&event.act) {
             return Err(fault);
         }

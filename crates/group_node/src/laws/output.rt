@@ -1,21 +1,16 @@
 //! The laws of a node's output.
-ghost use Rattle.std.specs.Prelude.{◌≡◌, ◌+◌, ◌≤◌, ◌∷◌, ℕ, List, length};
+ghost use Rattle.std.specs.Prelude.{◌≡◌, ◌≤◌, ℕ, List, length};
 ghost use Rattle.std.specs.FinMap.{FinMap};
 ghost use Rattle.std.specs.Ordering.{nat_cmp};
 ghost use Rattle.pcode_file.specs.Parts.{Parts};
-ghost use Rattle.pcode_machine.specs.Runs.{after_steps, LeadsIn, out};
+ghost use Rattle.pcode_machine.specs.Runs.{after_steps, out};
 ghost use Rattle.paxos_msg.specs.declared.value.Value.{Value};
 ghost use Rattle.paxos_learner.specs.Learner.{HasLearnedMore};
 ghost use Rattle.paxos_learner.specs.Input.{learned_input};
-ghost use Rattle.group_node.specs.declared.player.Ran.{Ran};
-ghost use Rattle.group_node.specs.Console.{offered};
-ghost use Rattle.group_node.specs.Deeds as deed;
-ghost use Rattle.group_protocol.specs.Known.{Known};
-ghost use Rattle.group_node.specs.Output.{IsReplay, no_progress, Progress, RunsOn, unreleased_of};
-ghost use Rattle.group_node.specs.World.{seat_of, Sits, with_seat, WorldState, WorldStep};
+ghost use Rattle.group_node.specs.Output.{IsReplay, no_progress, Progress, unreleased_of};
 
 use paxos_learner::laws::input_grows;
-use pcode_machine::laws::{run_is_after, same_run_on_longer_input, step_is_transition};
+use pcode_machine::laws::{run_is_after, same_run_on_longer_input};
 
 /// When more is learned, the same steps were made, the machine is in the same configuration, and
 /// the same bytes wait. A node that has just started has made its steps on any input.
@@ -41,29 +36,3 @@ pub fn replays_release_what_is_written()
     ensures written { (x : List ℕ) (q : Progress) → IsReplay x q
         → q.released ≤ length (out q.program x q.steps) }
 {}
-
-/// A run, and the release of a byte to the console, are deeds that the group allows, if the machine
-/// is where a replay on the learned input is. A run makes at most as many steps as it may.
-pub fn output_is_a_deed()
-    ensures run { (w : WorldState) (n : Known) (steps m made k : ℕ) (console : List ℕ)
-        → Sits w n (after_steps w.program (learned_input n.learner.learned) m) k console
-        → made ≤ steps → LeadsIn w.program (learned_input n.learner.learned) (m + made)
-        (after_steps w.program (learned_input n.learner.learned) (m + made))
-        → WorldStep w n.me.node (deed.Run steps)
-        (with_seat w n.me.node
-        (seat_of n (after_steps w.program (learned_input n.learner.learned) (m + made)) k
-        console)) }
-    ensures release { (w : WorldState) (n : Known) (m k byte : ℕ) (rest console : List ℕ)
-        → Sits w n (after_steps w.program (learned_input n.learner.learned) m) k console
-        → unreleased_of (learned_input n.learner.learned)
-        (record { program = w.program; steps = m; released = k }) ≡ byte ∷ rest
-        → WorldStep w n.me.node deed.Release
-        (with_seat w n.me.node
-        (seat_of n (after_steps w.program (learned_input n.learner.learned) m) (k + 1)
-        (offered console k byte))) }
-    ensures few { (x : List ℕ) (steps : ℕ) (old new : Progress) (answer : Ran)
-        → RunsOn x steps old new answer → new.steps ≤ old.steps + steps }
-{
-    step_is_transition();
-    run_is_after();
-}

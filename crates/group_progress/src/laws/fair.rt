@@ -18,11 +18,11 @@ ghost use Rattle.group_progress.specs.Fair.{AllHaveLearned, AllHoldPromise, AllI
 ghost use Rattle.group_progress.specs.Stuck.{HasStuckRun, HearsAll, HearsAllButSubmits, HearsAndTicks, IsLedCalmly, IsLedOpenly};
 ghost use Rattle.group_progress.specs.GoingOn.{AllHaveRead};
 
-use group_node::laws::input_is_chosen;
 use group_protocol::laws::{
     calls_keep_what_is_learned, waiting_keys_are_a_row, what_goes_out_fits,
 };
-use group_world::laws::{deeds_keep_it_sound, deeds_keep_order, sound_worlds_agree};
+use group_rules::laws::{claims_follow, next_keys_are_new};
+use group_world::laws::deeds_keep_what_holds;
 use paxos_learner::laws::{
     input_grows, key_tests_are_exact, keys_are_read_once, learned_stays, one_front,
     values_are_learned,
@@ -40,9 +40,10 @@ pub fn fair_runs_promise()
         → IsMajority w.group.size members → IsLed members leader b run → IsFair members run
         → Later 0 (λ t. (u : ℕ) → t ≤ u → AllHoldPromise members b w.group.size (run.world u)) }
 {
-    deeds_keep_it_sound();
-    deeds_keep_order();
+    deeds_keep_what_holds();
+    next_keys_are_new();
     what_goes_out_fits();
+    waiting_keys_are_a_row();
     one_front();
     spelling_is_read();
     tests_are_exact();
@@ -58,9 +59,10 @@ pub fn fair_runs_are_led()
         → Later 0 (λ t. (among : ℕ → Bool) × IsMajority w.group.size among
         × ((u : ℕ) → t ≤ u → IsLeading among b leader (run.world u))) }
 {
-    deeds_keep_it_sound();
-    deeds_keep_order();
+    deeds_keep_what_holds();
+    next_keys_are_new();
     what_goes_out_fits();
+    waiting_keys_are_a_row();
     one_front();
     spelling_is_read();
     tests_are_exact();
@@ -77,9 +79,9 @@ pub fn fair_runs_catch_up()
         → Later (suc n) (λ t. (u : ℕ) → t ≤ u → AllHaveRead members w.group.size
         (keys_in_order (front_values q.known.learner.learned)) (run.world u)) }
 {
-    deeds_keep_it_sound();
-    deeds_keep_order();
-    sound_worlds_agree();
+    deeds_keep_what_holds();
+    claims_follow();
+    next_keys_are_new();
     what_goes_out_fits();
     waiting_keys_are_a_row();
     calls_keep_what_is_learned();
@@ -103,9 +105,9 @@ pub fn fair_runs_propose()
         → Contains proposer.kept vote
         → Later (suc n) (λ t. (u : ℕ) → t ≤ u → HasProposedPast b vote.place (run.world u) leader) }
 {
-    deeds_keep_it_sound();
-    deeds_keep_order();
-    sound_worlds_agree();
+    deeds_keep_what_holds();
+    claims_follow();
+    next_keys_are_new();
     what_goes_out_fits();
     waiting_keys_are_a_row();
     calls_keep_what_is_learned();
@@ -131,9 +133,9 @@ pub fn fair_runs_learn()
         → Later (suc n) (λ t. (u : ℕ) → t ≤ u
         → AllHaveLearned members w.group.size (next_of proposer) (run.world u)) }
 {
-    deeds_keep_it_sound();
-    deeds_keep_order();
-    sound_worlds_agree();
+    deeds_keep_what_holds();
+    claims_follow();
+    next_keys_are_new();
     what_goes_out_fits();
     waiting_keys_are_a_row();
     calls_keep_what_is_learned();
@@ -156,9 +158,9 @@ pub fn fair_runs_read()
         → IsMajority w.group.size members → IsLed members leader b run → IsFair members run
         → AllIsRead members run n }
 {
-    deeds_keep_it_sound();
-    deeds_keep_order();
-    sound_worlds_agree();
+    deeds_keep_what_holds();
+    claims_follow();
+    next_keys_are_new();
     what_goes_out_fits();
     waiting_keys_are_a_row();
     calls_keep_what_is_learned();
@@ -181,28 +183,29 @@ pub fn fair_runs_show()
         → IsLed members leader b run → IsTrue (members i) → KeepsPlaying i run
         → AllIsShown run i n }
 {
-    deeds_keep_it_sound();
-    deeds_keep_order();
+    deeds_keep_what_holds();
+    claims_follow();
+    next_keys_are_new();
     what_goes_out_fits();
+    waiting_keys_are_a_row();
     calls_keep_what_is_learned();
     input_grows();
-    input_is_chosen();
-    values_are_learned();
     output_only_grows();
     prefixes_are_ordered();
     spelling_is_read();
 }
 
-/// Fair runs go on. In each endless run in which one node leads a majority, and what the nodes of
-/// the majority send to each other is heard, each key that waits at one of them is read by all of
-/// them, and each byte that the program writes on what was read comes to the console.
+/// Fair runs go on. In each endless run in which one node leads a majority, each node of it ticks
+/// again and again, and what they send to each other is heard, each key that waits at one of them
+/// is read by all of them. If a node of the majority also runs and releases again and again, each
+/// byte that the program writes on what the node has read comes to its console.
 pub fn fair_runs_go_on()
     ensures { (p : Parts) (group : Group) → IsSize group.size → IsGroup group
         → FairRunsGoOn p group }
 {
-    deeds_keep_it_sound();
-    deeds_keep_order();
-    sound_worlds_agree();
+    deeds_keep_what_holds();
+    claims_follow();
+    next_keys_are_new();
     what_goes_out_fits();
     waiting_keys_are_a_row();
     calls_keep_what_is_learned();
@@ -214,7 +217,6 @@ pub fn fair_runs_go_on()
     values_are_learned();
     spelling_is_read();
     tests_are_exact();
-    input_is_chosen();
     output_only_grows();
     prefixes_are_ordered();
 }
@@ -224,9 +226,10 @@ pub fn fair_runs_go_on()
 pub fn some_run_is_fair()
     ensures { (p : Parts) (group : Group) → IsSize group.size → IsGroup group → HasFairRun p group }
 {
-    deeds_keep_it_sound();
-    deeds_keep_order();
+    deeds_keep_what_holds();
+    next_keys_are_new();
     what_goes_out_fits();
+    waiting_keys_are_a_row();
     one_front();
     spelling_is_read();
     tests_are_exact();
@@ -238,8 +241,8 @@ pub fn fair_runs_need_ticks()
     ensures { (p : Parts) (group : Group) → IsSize group.size → IsGroup group
         → HasStuckRun IsLedCalmly HearsAll p group }
 {
-    deeds_keep_it_sound();
-    deeds_keep_order();
+    deeds_keep_what_holds();
+    next_keys_are_new();
     what_goes_out_fits();
     waiting_keys_are_a_row();
     one_front();
@@ -253,8 +256,8 @@ pub fn fair_runs_need_submits()
     ensures { (p : Parts) (group : Group) → IsSize group.size → IsGroup group
         → HasStuckRun IsLedCalmly HearsAllButSubmits p group }
 {
-    deeds_keep_it_sound();
-    deeds_keep_order();
+    deeds_keep_what_holds();
+    next_keys_are_new();
     what_goes_out_fits();
     waiting_keys_are_a_row();
     one_front();
@@ -268,8 +271,8 @@ pub fn fair_runs_need_peace()
     ensures { (p : Parts) (group : Group) → IsSize group.size → IsGroup group → 1 < group.size
         → HasStuckRun IsLedOpenly HearsAndTicks p group }
 {
-    deeds_keep_it_sound();
-    deeds_keep_order();
+    deeds_keep_what_holds();
+    next_keys_are_new();
     what_goes_out_fits();
     waiting_keys_are_a_row();
     one_front();

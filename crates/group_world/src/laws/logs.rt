@@ -6,12 +6,12 @@ ghost use Rattle.group_protocol.specs.Packets.{to_all};
 ghost use Rattle.group_world.specs.declared.event.Outcome.TheVariants.{FailedOld, Kept};
 ghost use Rattle.group_world.specs.Event.{LeadsBy};
 ghost use Rattle.group_world.specs.Group.{new_world, world_state};
-ghost use Rattle.group_world.specs.Headline.{HasLearned};
+ghost use Rattle.group_rules.specs.Claims.{HasLearned};
 ghost use Rattle.group_world.specs.KeyLog.{key_after, key_events, key_log, typed_letter, letter_value, promised_record, voted_record};
 ghost use Rattle.group_world.specs.Member.{Member};
 ghost use Rattle.group_world.specs.Processes.{AreEventsOf, IsLog};
 ghost use Rattle.group_world.specs.Timed.{AllHearEarlier, IsByTime};
-ghost use Rattle.group_world.specs.Witness.{echoes};
+ghost use Rattle.group_rules.specs.SmallPrograms.{echoes};
 ghost use Rattle.group_world.specs.WrittenLogs.{IsNoLog, IsSomeLog, five_nodes, nine_nodes, node_in, three_nodes};
 ghost use Rattle.group_world.specs.WrongLogs.{IsOnlyOfUp, answers, campaigning, crashes, deliver_event, failed_and_starts_over, heard_at, hears_ask_from, idle_sends, idle_types, nodes_down, only_start, press_event, press_types, presses, releasing, run_sends, runs_no_step, starts_again_over, starts_twice, tick_sends, ticks, two_start};
 

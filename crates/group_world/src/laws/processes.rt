@@ -7,19 +7,16 @@ ghost use Rattle.group_protocol.specs.Packets.{Datagram};
 ghost use Rattle.group_world.specs.declared.event.Event.{Event};
 ghost use Rattle.group_world.specs.Event.{LeadsBy};
 ghost use Rattle.group_world.specs.Group.{World};
-ghost use Rattle.group_world.specs.Headline.{ConsolesAgree, ConsolesGrow, ConsolesHoldOutput, HasNoGap, LearnedAgree, LearnedChosen, LearnedStays};
+ghost use Rattle.group_rules.specs.Claims.{ConsolesAgree, ConsolesGrow, ConsolesHoldOutput, HasNoGap, LearnedAgree, LearnedChosen, LearnedStays};
 ghost use Rattle.group_world.specs.Member.{Member};
-ghost use Rattle.group_world.specs.Order.{KeysOnce, SerialsInOrder};
-ghost use Rattle.group_world.specs.Processes.{AlwaysLaterOfProcesses, AlwaysOfProcesses, AreEvents, AreEventsOf, ConsolesShowReleased, Entry, HasMoment, IsCarried, IsHistory, IsLog, MayBeLogged, after_log};
+ghost use Rattle.group_rules.specs.Claims.{KeysOnce, SerialsInOrder};
+ghost use Rattle.group_world.specs.Processes.{AlwaysLaterOfProcesses, AlwaysOfProcesses, AreEvents, AreEventsOf, Entry, HasMoment, IsCarried, IsHistory, IsLog, MayBeLogged, after_log};
+ghost use Rattle.group_rules.specs.Claims.{ConsolesShowReleased};
 ghost use Rattle.group_world.specs.Timed.{AllHearEarlier, IsByTime, Timed, untimed};
 
-use crate::laws::order::deeds_keep_order;
-use crate::laws::sound::deeds_keep_it_sound;
-use crate::laws::worlds::{headline, later_worlds_agree};
-use group_node::laws::input_is_chosen;
-use paxos_learner::laws::values_are_learned;
-use paxos_msg::laws::agreement;
-use pcode_machine::laws::{output_only_grows, prefixes_are_ordered, run_is_after};
+use crate::laws::sound::{deeds_keep_it_sound, worlds_follow_the_rules};
+use group_rules::laws::headline as rules_headline;
+use pcode_machine::laws::run_is_after;
 
 /// What the processes of a group do is what a list of events does. It is about every log of a group
 /// in one order of time, in which each process does what its node's calls say, its store keeps its
@@ -67,9 +64,9 @@ pub fn processes_headline()
     ensures learned_stays { AlwaysLaterOfProcesses LearnedStays }
     ensures consoles_grow { AlwaysLaterOfProcesses ConsolesGrow }
 {
-    headline();
-    later_worlds_agree();
-    processes_are_events();
+    deeds_keep_it_sound();
+    worlds_follow_the_rules();
+    rules_headline();
 }
 
 /// What a process has released since its start is on its console, in the same places: the console
@@ -79,13 +76,8 @@ pub fn processes_show()
     ensures shows { AlwaysOfProcesses ConsolesShowReleased }
 {
     deeds_keep_it_sound();
-    deeds_keep_order();
-    agreement();
-    input_is_chosen();
-    values_are_learned();
-    output_only_grows();
-    prefixes_are_ordered();
-    processes_are_events();
+    worlds_follow_the_rules();
+    rules_headline();
 }
 
 /// Between two parts of a log there are nodes, which the first part leaves and from which the

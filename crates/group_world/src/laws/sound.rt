@@ -1,27 +1,27 @@
 //! Laws of what holds of every world: deeds keep it sound, and what follows for a sound one.
-ghost use Rattle.std.specs.Prelude.{ℕ, Bool, Option};
+ghost use Rattle.std.specs.Prelude.{◌≡◌, ℕ, Bool, List, Option};
 ghost use Rattle.pcode_file.specs.Parts.{Parts};
 ghost use Rattle.paxos_msg.specs.declared.message.Group.{Group};
 ghost use Rattle.paxos_msg.specs.Fits.{IsGroup};
-ghost use Rattle.group_node.specs.Deeds.{Deed};
 ghost use Rattle.group_protocol.specs.States.{IsSize};
+ghost use Rattle.group_node.specs.Deeds.{Deed};
+ghost use Rattle.group_rules.specs.Leads.{NodeDeed, initial, LeadsByRules};
+ghost use Rattle.group_world.specs.declared.event.Event.{Event};
+ghost use Rattle.group_world.specs.Member.{Member};
+ghost use Rattle.group_world.specs.Processes.{after_log, Entry, IsLog};
 ghost use Rattle.group_world.specs.declared.event.Done.{Done};
-ghost use Rattle.group_world.specs.Event.{DoesAt, HearsOf, IsStepAt};
+ghost use Rattle.group_world.specs.Event.{DoesAt, HearsOf, IsStepAt, LeadsBy};
 ghost use Rattle.group_world.specs.Group.{new_world, World, world_state};
-ghost use Rattle.group_world.specs.Headline.{ConsolesAgree, ConsolesHoldOutput, HasNoGap, LearnedAgree, LearnedChosen};
-ghost use Rattle.group_world.specs.Sound.{IsSound};
+ghost use Rattle.group_world.specs.Sound.{Holds, IsSound};
 
-use group_node::laws::{
-    calls_are_deeds, input_is_chosen, learning_keeps_the_output, output_is_a_deed,
-};
+use group_node::laws::learning_keeps_the_output;
 use group_protocol::laws::{
     calls_are_lawful, lawful_calls_go_on, others_keep_it_backed, what_goes_out_fits,
 };
+use group_rules::laws::{calls_are_deeds, output_is_a_deed, steps_keep_it};
 use paxos_acceptor::laws::backing;
-use paxos_learner::laws::{one_front, values_are_learned};
+use paxos_learner::laws::one_front;
 use paxos_msg::grammar::spelling_is_read;
-use paxos_msg::laws::{agreement, growth, restarts, sent_only_grows};
-use pcode_machine::laws::{output_only_grows, prefixes_are_ordered};
 
 /// A world is sound before all events, and each deed of a node keeps it sound, if it hears only
 /// what was sent. In a sound world, a deed that is not refused is that deed in its group, by
@@ -42,31 +42,37 @@ pub fn deeds_keep_it_sound()
     others_keep_it_backed();
     calls_are_deeds();
     output_is_a_deed();
-    input_is_chosen();
-    backing();
     one_front();
-    values_are_learned();
+    backing();
     spelling_is_read();
-    growth();
-    restarts();
-    sent_only_grows();
-    output_only_grows();
-    prefixes_are_ordered();
 }
 
-/// What a sound world's nodes have learned agrees, is chosen and was typed. Its consoles hold the
-/// program's output on the chosen input, so that of two of them one holds a prefix of the other. No
-/// released byte comes too early.
-pub fn sound_worlds_agree()
-    ensures learned_agree { (w : World) → IsSound w → LearnedAgree (world_state w) }
-    ensures learned_chosen { (w : World) → IsSound w → LearnedChosen (world_state w) }
-    ensures consoles_hold_output { (w : World) → IsSound w → ConsolesHoldOutput (world_state w) }
-    ensures consoles_agree { (w : World) → IsSound w → ConsolesAgree (world_state w) }
-    ensures no_gap { (w : World) → IsSound w → HasNoGap (world_state w) }
+/// All that always holds of a world holds before all events, and each deed of a node keeps it, if
+/// it hears only what was sent: its nodes are sound, and it is a group by the rules.
+pub fn deeds_keep_what_holds()
+    ensures begins { (p : Parts) (group : Group) → IsSize group.size → IsGroup group
+        → Holds (new_world p group) }
+    ensures goes_on { (w v : World) (i : ℕ) (plan : Option Bool) (deed : Deed) (d : Done) → Holds w
+        → HearsOf w.group w.sent deed → DoesAt w i plan deed d v → Holds v }
 {
-    agreement();
-    input_is_chosen();
-    values_are_learned();
-    output_only_grows();
-    prefixes_are_ordered();
+    deeds_keep_it_sound();
+    worlds_follow_the_rules();
+    steps_keep_it();
+}
+
+/// A list of events and a log of processes lead from a sound world to a sound one, and by the rules
+/// from its group to the group after it. The world in which nothing has happened is the group in
+/// which nothing has happened.
+pub fn worlds_follow_the_rules()
+    ensures first { (p : Parts) (group : Group)
+        → world_state (new_world p group) ≡ initial p group.size }
+    ensures events { (w v : World) (events : List Event) → IsSound w → LeadsBy w events v
+        → IsSound v
+        × ((deeds : List NodeDeed) × LeadsByRules (world_state w) deeds (world_state v)) }
+    ensures log { (w : World) (log : List Entry) (now : List Member) → IsSound w → IsLog w log now
+        → IsSound (after_log w log now)
+        × ((deeds : List NodeDeed)
+        × LeadsByRules (world_state w) deeds (world_state (after_log w log now))) }
+{
+    deeds_keep_it_sound();
 }

@@ -7,14 +7,15 @@ ghost use Rattle.group_protocol.specs.States.{IsSize};
 ghost use Rattle.group_world.specs.declared.event.Event.{Event};
 ghost use Rattle.group_world.specs.Event.{LeadsBy};
 ghost use Rattle.group_world.specs.Group.{new_world, World, world_state};
-ghost use Rattle.group_world.specs.Headline.{Always, AlwaysLater, ConsolesAgree, ConsolesGrow, ConsolesHoldOutput, HasLearned, HasNoGap, LearnedAgree, LearnedChosen, LearnedStays};
-ghost use Rattle.group_world.specs.Order.{KeysOnce, SerialsInOrder};
-ghost use Rattle.group_world.specs.Witness.{echoes, letter, letter_batch, one, shown_events};
+ghost use Rattle.group_world.specs.Headline.{Always, AlwaysLater};
+ghost use Rattle.group_rules.specs.Claims.{ConsolesAgree, ConsolesGrow, ConsolesHoldOutput, HasLearned, HasNoGap, LearnedAgree, LearnedChosen, LearnedStays};
+ghost use Rattle.group_rules.specs.Claims.{KeysOnce, SerialsInOrder};
+ghost use Rattle.group_rules.specs.SmallPrograms.{echoes};
+ghost use Rattle.group_world.specs.Witness.{letter, letter_batch, one, shown_events};
 
-use crate::laws::order::{deeds_keep_order, ordered_worlds_are_orderly};
-use crate::laws::sound::{deeds_keep_it_sound, sound_worlds_agree};
+use crate::laws::sound::{deeds_keep_it_sound, worlds_follow_the_rules};
+use group_rules::laws::headline as rules_headline;
 use paxos_msg::grammar::spelling_is_read;
-use paxos_msg::laws::{agreement, sent_only_grows};
 use pcode_machine::laws::output_only_grows;
 
 /// The main theorem. It is about every program, every group of 1, 3, 5, 7 or 9 nodes and every list
@@ -39,9 +40,8 @@ pub fn headline()
     ensures serials_in_order { Always SerialsInOrder }
 {
     deeds_keep_it_sound();
-    deeds_keep_order();
-    sound_worlds_agree();
-    ordered_worlds_are_orderly();
+    worlds_follow_the_rules();
+    rules_headline();
 }
 
 /// What was learned and shown stays after more events, for every program and every group of 1, 3,
@@ -54,10 +54,8 @@ pub fn later_worlds_agree()
     ensures consoles_grow { AlwaysLater ConsolesGrow }
 {
     deeds_keep_it_sound();
-    deeds_keep_order();
-    sound_worlds_agree();
-    agreement();
-    sent_only_grows();
+    worlds_follow_the_rules();
+    rules_headline();
 }
 
 /// The main theorem is not empty. A group of three runs a program that writes the letter A; events

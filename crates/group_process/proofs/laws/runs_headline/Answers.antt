@@ -3,12 +3,12 @@ use Rattle.std.proofs.lemmas.Grind.{flat_map-append}
 use Rattle.std.proofs.Common.{◌≡◌, List, ◌++◌, subst, arith}
 use Rattle.pcode_file.specs.Parts.{Parts}
 use Rattle.paxos_msg.specs.declared.message.Group.{Group}
-use Rattle.group_node.specs.World.{WorldState}
+use Rattle.group_rules.specs.Rules.{WorldState}
 use Rattle.group_world.specs.Group.{new_world, world_state}
-use Rattle.group_world.specs.Headline.{ConsolesAgree, ConsolesGrow, ConsolesHoldOutput, HasNoGap, LearnedAgree, LearnedChosen, LearnedStays}
+use Rattle.group_rules.specs.Claims.{ConsolesAgree, ConsolesGrow, ConsolesHoldOutput, HasNoGap, LearnedAgree, LearnedChosen, LearnedStays}
 use Rattle.group_world.specs.Member.{Member}
-use Rattle.group_world.specs.Order.{KeysOnce, SerialsInOrder}
-use Rattle.group_world.specs.Processes.{AlwaysLaterOfProcesses, AlwaysOfProcesses, ConsolesShowReleased, Entry, after_log}
+use Rattle.group_rules.specs.Claims.{ConsolesShowReleased, KeysOnce, SerialsInOrder}
+use Rattle.group_world.specs.Processes.{AlwaysLaterOfProcesses, AlwaysOfProcesses, Entry, after_log}
 use Rattle.group_process.specs.Runs.{AlwaysLaterOfRuns, AlwaysOfRuns, state_after}
 use Rattle.group_process.proofs.RunsShow.{LogLaws, only_released, runs_show}
 use Rattle.group_process.proofs.laws.runs_headline.Goals as goal

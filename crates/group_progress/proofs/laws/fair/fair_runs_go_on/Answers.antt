@@ -6,17 +6,20 @@ use Rattle.group_progress.proofs.KeysKept.{KeyLaws}
 use Rattle.group_progress.proofs.Learning.{Laws}
 use Rattle.group_progress.proofs.Played.{PlayedLaws, all_is_shown}
 use Rattle.group_progress.proofs.Reading.{ReadLaws}
-use Rattle.group_progress.proofs.Showing.{ShowLaws}
-use Rattle.group_world.proofs.SoundWorldsAgree.{FrontLaws, PlayLaws}
-use Rattle.group_progress.proofs.Starting.{first_tallies, happens_good}
+use Rattle.group_progress.proofs.Showing.{PlayLaws, ShowLaws}
+use Rattle.group_progress.proofs.Starting.{first_tallies, first_unread, happens_good}
 use Rattle.group_progress.proofs.Waited.{FairLaws, all_is_read}
 use Rattle.group_progress.proofs.laws.fair.fair_runs_go_on.Goals as goal
 
 pub returns : goal.returns
 returns c =
     let events : EventLaws = record {
-      sound = c.deeds_keep_it_sound.ensures.goes_on;
-      ordered = c.deeds_keep_order.ensures.goes_on;
+      holds = c.deeds_keep_what_holds.ensures.goes_on;
+      unread = record {
+        first = c.waiting_keys_are_a_row.ensures.first;
+        typed = c.waiting_keys_are_a_row.ensures.typed;
+        new = c.next_keys_are_new.ensures.not_read;
+      };
       read = c.spelling_is_read.ensures.read;
       fits_start = c.what_goes_out_fits.ensures.start;
       fits_campaign = c.what_goes_out_fits.ensures.campaign;
@@ -48,7 +51,7 @@ returns c =
       same = c.keys_are_read_once.ensures.same;
       many = c.values_are_learned.ensures.many;
       at_place = c.values_are_learned.ensures.at_place;
-      agree = c.sound_worlds_agree.ensures.learned_agree;
+      agree = c.claims_follow.ensures.learned_agree;
       front = c.one_front.ensures.there;
     } in
     let more : MoreLaws = record {
@@ -64,15 +67,10 @@ returns c =
       few = c.one_front.ensures.few;
       wait = record { keys = keys; typed = c.waiting_keys_are_a_row.ensures.typed };
     } in
-    let fronts : FrontLaws = record { many = c.values_are_learned.ensures.many; at_place = c.values_are_learned.ensures.at_place } in
     let play : PlayLaws = record {
-      there = c.input_is_chosen.ensures.there;
-      begins = c.input_is_chosen.ensures.begins;
-      longer = c.output_only_grows.ensures.longer;
-      compared = c.output_only_grows.ensures.compared;
+      compares = c.claims_follow.ensures.consoles_follow;
       itself = c.prefixes_are_ordered.ensures.itself;
       shorter = c.prefixes_are_ordered.ensures.shorter;
-      fronts = fronts;
     } in
     let shows : ShowLaws = record {
       events = events;
@@ -94,11 +92,8 @@ returns c =
     } in
     λ p group size session list w members leader b run leads most led fair.
     let begins : Good _ = record {
-      holds = record {
-        sound = c.deeds_keep_it_sound.ensures.begins p group size session;
-        ordered = c.deeds_keep_order.ensures.begins p
-            group;
-      };
+      holds = c.deeds_keep_what_holds.ensures.begins p group size session;
+      unread = first_unread p group;
       tallies = first_tallies p group;
     } in (
       all_is_read fair_laws run (happens_good events _ list w begins leads) most led fair,

@@ -6,15 +6,19 @@ use Rattle.group_progress.proofs.Going.{EventLaws, Good}
 use Rattle.group_progress.proofs.KeysKept.{KeyLaws}
 use Rattle.group_progress.proofs.Learning.{Laws}
 use Rattle.group_progress.proofs.Reading.{ReadLaws}
-use Rattle.group_progress.proofs.Starting.{first_tallies, happens_good}
+use Rattle.group_progress.proofs.Starting.{first_tallies, first_unread, happens_good}
 use Rattle.group_progress.proofs.Waited.{FairLaws}
 use Rattle.group_progress.proofs.laws.fair.fair_runs_learn.Goals as goal
 
 pub returns : goal.returns
 returns c =
     let events : EventLaws = record {
-      sound = c.deeds_keep_it_sound.ensures.goes_on;
-      ordered = c.deeds_keep_order.ensures.goes_on;
+      holds = c.deeds_keep_what_holds.ensures.goes_on;
+      unread = record {
+        first = c.waiting_keys_are_a_row.ensures.first;
+        typed = c.waiting_keys_are_a_row.ensures.typed;
+        new = c.next_keys_are_new.ensures.not_read;
+      };
       read = c.spelling_is_read.ensures.read;
       fits_start = c.what_goes_out_fits.ensures.start;
       fits_campaign = c.what_goes_out_fits.ensures.campaign;
@@ -46,7 +50,7 @@ returns c =
       same = c.keys_are_read_once.ensures.same;
       many = c.values_are_learned.ensures.many;
       at_place = c.values_are_learned.ensures.at_place;
-      agree = c.sound_worlds_agree.ensures.learned_agree;
+      agree = c.claims_follow.ensures.learned_agree;
       front = c.one_front.ensures.there;
     } in
     let more : MoreLaws = record {
@@ -64,11 +68,8 @@ returns c =
     } in
     λ p group list w members leader b run n m q proposer size session leads most led fair is_up has.
     let begins : Good _ = record {
-      holds = record {
-        sound = c.deeds_keep_it_sound.ensures.begins p group size session;
-        ordered = c.deeds_keep_order.ensures.begins p
-            group;
-      };
+      holds = c.deeds_keep_what_holds.ensures.begins p group size session;
+      unread = first_unread p group;
       tallies = first_tallies p group;
     } in
     learns_on fair_laws run (happens_good events _ list w begins leads) most led fair n is_up proposer has

@@ -9,7 +9,7 @@ use Rattle.paxos_msg.specs.declared.message.Body.TheVariants.{Accept, Accepted, 
 use Rattle.paxos_msg.specs.Ballots.{IsBelow}
 use Rattle.paxos_msg.specs.Batches.{Body}
 use Rattle.paxos_msg.specs.Fits.{IsBallot, AreBytes}
-use Rattle.group_protocol.specs.Known.{begun, front, Known}
+use Rattle.group_protocol.specs.Known.{front, Known}
 use Rattle.group_protocol.specs.Protocol.{row}
 use Rattle.group_protocol.specs.ProposerRows.{next_ballot}
 use Rattle.group_protocol.specs.Tick.{accepts_again, asks, prepares_again}

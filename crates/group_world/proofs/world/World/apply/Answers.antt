@@ -3,10 +3,12 @@ use Rattle.std.proofs.lemmas.Result.{IfErr-weaker, IfOk-weaker}
 use Rattle.group_world.specs.Event.{Goes, IsStep}
 use Rattle.group_world.specs.Refusals.{Applies}
 use Rattle.group_world.specs.Group.{World, world_state}
-use Rattle.group_world.specs.Headline.{ConsolesAgree, ConsolesGrow, ConsolesHoldOutput, HasNoGap, LearnedAgree, LearnedChosen, LearnedStays}
-use Rattle.group_world.specs.Order.{KeysOnce, SerialsInOrder}
-use Rattle.group_world.specs.Ordered.{Holds}
-use Rattle.group_world.proofs.HoldsAfterEvents.{ChosenLaws, EventLaws, Grows, answer_grows, event_holds, heard_by, grown_learned, grows_none}
+use Rattle.group_rules.specs.Claims.{ConsolesAgree, ConsolesGrow, ConsolesHoldOutput, HasNoGap, LearnedAgree, LearnedChosen, LearnedStays}
+use Rattle.group_rules.specs.Claims.{KeysOnce, SerialsInOrder}
+use Rattle.group_world.specs.Sound.{Holds}
+use Rattle.group_rules.specs.Invariants.{HoldsByRules}
+use Rattle.group_world.proofs.Happens.{heard_by}
+use Rattle.group_world.proofs.DeedsAsSteps.{answer_reaches, DeedLaws, reach_itself, Reaches}
 use Rattle.group_world.proofs.world.World.apply.Goals as goal
 use Rattle.group_world.proofs.world.World.apply.Goals.{After-refusal}
 
@@ -22,21 +24,19 @@ record Claims (w v : World) : Type 0 where
   key_once : KeysOnce (world_state v)
   serials_in_order : SerialsInOrder (world_state v)
 
-claims : After-refusal → (w v : World) → Holds w → Holds v → Grows (world_state w) (world_state v) → Claims w v
-claims c w v before after grows =
-    let sound = c.sound_worlds_agree.ensures in
-    let ordered = c.ordered_worlds_are_orderly.ensures in
-    let chosen : ChosenLaws = assumption in
+claims : After-refusal → (w v : World) → Holds w → HoldsByRules (world_state v) → Reaches w v → Claims w v
+claims c w v before after r =
+    let claims = c.claims_follow.ensures in
     record {
-      learned_stays = grown_learned chosen w v before.sound after.sound grows;
-      consoles_grow = grows.consoles;
-      learned_agree = sound.learned_agree v after.sound;
-      learned_chosen = sound.learned_chosen v after.sound;
-      consoles_hold_output = sound.consoles_hold_output v after.sound;
-      consoles_agree = sound.consoles_agree v after.sound;
-      no_gap = sound.no_gap v after.sound;
-      key_once = ordered.once v after.sound after.ordered;
-      serials_in_order = ordered.order v after.sound after.ordered;
+      learned_stays = claims.learned_stays _ _ r.deeds before.rules r.leads;
+      consoles_grow = claims.consoles_grow _ _ r.deeds r.leads;
+      learned_agree = claims.learned_agree _ after;
+      learned_chosen = claims.learned_chosen _ after;
+      consoles_hold_output = claims.consoles_hold_output _ after;
+      consoles_agree = claims.consoles_agree _ after;
+      no_gap = claims.no_gap _ after;
+      key_once = claims.key_once _ after;
+      serials_in_order = claims.serials_in_order _ after;
     }
 
 -- ---- an event that is refused
@@ -47,7 +47,7 @@ same-self c = refl
 pub returns-in-Some : goal.returns-in-Some
 returns-in-Some c =
     let held = c.self.invariant in
-    let k = claims (goal.at.returns-in-Some c).After-refusal _ _ held held (grows_none _ _ refl) in
+    let k = claims (goal.at.returns-in-Some c).After-refusal _ _ held held.rules (reach_itself _ held.sound) in
     let applies : Applies c.self.inside.group c.args.event.now (Err c.in-Some.fault) c.self.inside.group =
     record { goes = tt; step = tt; taken = tt; same = refl; refused = inl (sym c.refusal.ensures ∙ c.in-Some.is) } in
     rw (← c.self.view_is) assumption
@@ -57,12 +57,18 @@ returns-in-Some c =
 pub perform-requires : goal.perform-requires
 perform-requires c = record { sound = c.self.invariant.sound; taken = sym c.in_default.ensures }
 
--- the world after the event is sound and ordered
+-- the world after the event, by a step or none
+reaches : (c : goal.After-perform) → Reaches c.self.inside.group c.perform.new.self
+reaches c =
+    let laws : DeedLaws = record { faithful = c.deeds_keep_it_sound.ensures.goes_on; step = c.deeds_keep_it_sound.ensures.step } in
+    answer_reaches laws _ _ c.args.event.now c.perform.result c.self.invariant.sound (rw (← c.plan.ensures) c.perform.ensures.acts)
+    c.perform.ensures.err
+
+-- it is sound, and a group by the rules
 holds : (c : goal.After-perform) → Holds c.perform.new.self
 holds c =
-    let laws : EventLaws = assumption in
-    event_holds laws c.args.event.now c.perform.result c.self.invariant (rw (← c.plan.ensures) c.perform.ensures.acts)
-    c.perform.ensures.err
+    let r = reaches c in
+    record { sound = r.faithful; rules = c.claims_follow.ensures.lasts _ _ r.deeds c.self.invariant.rules r.leads }
 
 pub invariant_of-self : goal.invariant_of-self
 invariant_of-self c = holds c
@@ -76,8 +82,7 @@ returns c =
     IfOk-weaker r _ _ (λ d goes.
     let heard = heard_by c.self.inside.group.group c.self.inside.group.sent _ goes.deed goes.is_deed in
     (goes.deed, goes.is_deed, c.deeds_keep_it_sound.ensures.step _ _ _ _ goes.deed d c.self.invariant.sound heard goes.does)) goes in
-    let k = claims (goal.at.returns c).After-refusal _ _ c.self.invariant (holds c)
-    (answer_grows c.self.inside.group _ _ r step c.perform.ensures.err) in
+    let k = claims (goal.at.returns c).After-refusal _ _ c.self.invariant (holds c).rules (reaches c) in
     let applies : Applies c.self.inside.group c.args.event.now r c.perform.new.self = record {
       goes = goes;
       step = step;

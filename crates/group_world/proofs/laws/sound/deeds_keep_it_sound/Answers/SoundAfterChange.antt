@@ -1,23 +1,22 @@
 -- A change of one node keeps the world sound: a call that it makes, a failed save, a crash, a run
 -- and a release. What holds of the other nodes still holds after a node has sent and typed more.
-use Rattle.std.proofs.Common.{◌≡◌, ◌∙◌, ℕ, ◌-◌, Bool, true, false, if◌then◌else◌, Contains, List, [], ◌∷◌, None, Some, inl, inr, refl, subst, arith, ◌+◌, ◌≤◌, length, slice_get, Option, ◌++◌, flat_map, sym, ◌≢◌, append-nil, append_assoc, length-set, length-drop, nat_cmp}
-use Rattle.std.proofs.lemmas.List.Elements.{Contains-push, All-append, Contains-append_left}
+use Rattle.std.proofs.Common.{◌≡◌, ◌∙◌, ℕ, ◌-◌, Bool, true, false, if◌then◌else◌, List, [], ◌∷◌, None, Some, inr, refl, subst, arith, ◌+◌, slice_get, Option, ◌++◌, flat_map, sym, ◌≢◌, append-nil, append_assoc, length-set, length-drop, nat_cmp}
+use Rattle.std.proofs.lemmas.List.Elements.{All-append}
 use Rattle.paxos_msg.specs.declared.value.Value.{Value}
-use Rattle.paxos_msg.specs.Batches.{Change, Grew, Sent, Body, MaySend, MaySendAll, Record}
-use Rattle.paxos_msg.specs.Records.{MaySave, Stored}
+use Rattle.paxos_msg.specs.Batches.{Change, Sent, Body, MaySend, MaySendAll, Record}
 use Rattle.group_protocol.specs.Known.{Response}
 use Rattle.group_node.specs.Output.{Progress, IsReplay}
-use Rattle.group_world.specs.Group.{member_at, with_member, World, world_state, IsUp, me_of}
+use Rattle.group_world.specs.Group.{member_at, with_member, World, IsUp, me_of}
+use Rattle.group_world.specs.Group.{world_state}
 use Rattle.group_world.proofs.CallLeaves.{world_after_call, world_after_fall}
 use Rattle.group_node.specs.NodeCalls.{Running}
 use Rattle.group_world.specs.Member.{Member, at_progress, member_after_release, member_after_call}
-use Rattle.group_world.specs.Sound.{IsSound, IsShown, IsMemberSound, IsSpelling, IsRunningSound, IsLearnedChosen}
-use Rattle.group_world.proofs.WorldAsGroup.{SoundAt, changed_elsewhere, changed_here, each_changed, running, is_node, packets_read, sent_called}
+use Rattle.group_world.specs.Sound.{IsSpelling}
+use Rattle.group_world.specs.Sound.{IsSound, IsMemberSound, IsRunningSound}
+use Rattle.group_world.proofs.WorldAsGroup.{SoundAt, each_changed, running, is_node, packets_read, sent_called}
 use Rattle.std.proofs.lemmas.Option.{slice_get_within, IfSome_then}
-use Rattle.paxos_learner.specs.Input.{front_values}
-use Rattle.group_node.specs.Console.{offered}
 use Rattle.group_node.specs.States.{input}
-use Rattle.group_world.proofs.SoundWorldsAgree.{PlayLaws, front_chosen, offer_fits, next_of, next_written, same_or_prefix, shown_then, written}
+use Rattle.group_world.proofs.Written.{next_of, next_written, written}
 use Rattle.std.proofs.lemmas.Grind.{flat_map-append}
 use Rattle.std.specs.FinMap.{FinMap}
 use Rattle.paxos_msg.specs.Keys.{Key, keys_of}
@@ -28,10 +27,9 @@ use Rattle.paxos_msg.specs.Messages.{messages_of}
 use Rattle.paxos_acceptor.specs.declared.me.Me.{Me}
 use Rattle.group_protocol.specs.Backs.{Backs}
 use Rattle.group_world.proofs.laws.sound.deeds_keep_it_sound.Goals as goal
-use Rattle.group_protocol.proofs.Elements.{only_in}
 
 abbrev pub Laws : Type 0
-Laws = goal.After-prefixes_are_ordered
+Laws = goal.After-spelling_is_read
 
 -- ---- the other nodes
 
@@ -48,16 +46,14 @@ sent_then P size known learned j r step (body ∷ more) sent may h =
 module _ (laws : Laws) (p : Parts) (me : Me) (sent : Sent) (typed keys known : List Key) (j : ℕ) (learned : ℕ → Option Value)
     (r : Record) (bodies : List Body) (ne : j ≢ me.node) (may : MaySendAll me.group.size known learned sent j r bodies) where
   -- a node that is up
-  running_then : (kept : Record) (console : List ℕ) (q : Running) → IsRunningSound p me sent typed kept console q
-      → IsRunningSound p me (sent ++ messages_of j bodies) (typed ++ keys) kept console q
-  running_then kept console q h =
+  running_then : (kept : Record) (q : Running) → IsRunningSound p me sent typed kept q
+      → IsRunningSound p me (sent ++ messages_of j bodies) (typed ++ keys) kept q
+  running_then kept q h =
       let backs =
       laws.others_keep_it_backed.ensures.types _ typed keys q.known
       (sent_then (λ all. Backs all typed q.known) me.group.size known learned j r
       (λ all body. laws.others_keep_it_backed.ensures.sends all typed known q.known me.group.size j learned r body (rw h.me_is ne))
       bodies sent may h.backs) in
-      let learned : IsLearnedChosen me.group.size (sent ++ messages_of j bodies) q.known.learner.learned =
-      record { chosen = λ s v e. laws.sent_only_grows.ensures.chosen me.group.size s sent _ v (h.learned.chosen s v e) } in
       assumption
 
   -- a node, after a call of another
@@ -68,8 +64,7 @@ module _ (laws : Laws) (p : Parts) (me : Me) (sent : Sent) (typed keys known : L
         sent_then _ me.group.size known learned j r
         (λ all body. laws.others_keep_it_backed.ensures.sends_record all known me.node me.group.size j learned m.kept r body ne)
         bodies sent may h.backed;
-    shown = grind (arith, h.shown);
-    running = IfSome_then m.node h.running (running_then m.kept m.console);
+    running = IfSome_then m.node h.running (running_then m.kept);
   }
 
 -- ---- the call
@@ -84,7 +79,6 @@ pub record MayMake (w : World) (i : ℕ) (m : Member) (made : Response) (progres
   pub fits : AllFit (me_of w i) made.sends
   pub program : progress.program ≡ w.program
   pub replay : IsReplay (input made.node) progress
-  pub shown : progress.released ≤ length m.console
 
 module _ (laws : Laws) {w : World} (h : IsSound w) (i : ℕ) {m : Member} (there : member_at w.members i ≡ Some m)
     (progress : Progress) (keys : List Value) where
@@ -108,11 +102,6 @@ module _ (laws : Laws) {w : World} (h : IsSound w) (i : ℕ) {m : Member} (there
     module _ (may : MayMake w i m made progress keys) where
       own_sound : IsMemberSound w.program (me_of w i) more_sent more_typed new
       own_sound =
-          let shown : IsShown w.program w.group.size more_sent m.console = grind (arith, (h.members i m there).shown) in
-          let learned : IsLearnedChosen w.group.size more_sent made.node.learner.learned = record {
-            chosen = λ s v e. laws.sent_only_grows.ensures.chosen w.group.size s _ _ v
-                (laws.lawful_calls_go_on.ensures.learned _ more_typed m.kept may.before made h.told may.ranges may.lawful s v e);
-          } in
           assumption
 
       member_sound : (j : ℕ) (x : Member) → member_at after_it.members j ≡ Some x
@@ -126,12 +115,6 @@ module _ (laws : Laws) {w : World} (h : IsSound w) (i : ℕ) {m : Member} (there
       sent_is : (world_state after_it).sent ≡ more_sent
       sent_is = sent_called laws.spelling_is_read.ensures.read w i made.sends h.session (is_node i h there) may.fits
 
-      grew : Grew w.group.size more_sent (λ j. ((world_state after_it).seats j).kept)
-      grew =
-          laws.lawful_calls_go_on.ensures.grew _ more_typed (λ j. ((world_state w).seats j).kept)
-          (λ j. ((world_state after_it).seats j).kept) may.before made h.grew (rw there may.lawful)
-          (rw (changed_here w.members i m new there) refl) (λ j ne. rw (changed_elsewhere w.members i j m new there ne) refl)
-
       made_sound : IsSound after_it
       made_sound = record {
         size = h.size;
@@ -140,13 +123,6 @@ module _ (laws : Laws) {w : World} (h : IsSound w) (i : ℕ) {m : Member} (there
         spelled =
             All-append (IsSpelling w.group) w.sent _ h.spelled
             (packets_read laws.spelling_is_read.ensures.read _ h.session (is_node i h there) made.sends may.fits).0;
-        grew = rw sent_is grew;
-        told = rw sent_is (laws.lawful_calls_go_on.ensures.told _ more_typed m.kept may.before made h.told may.ranges may.lawful);
-        submitted =
-            rw (sent_is, flat_map-append keys_of w.typed keys)
-            (laws.lawful_calls_go_on.ensures.submitted _ more_typed m.kept may.before made (λ j v is_sent.
-            let known = h.submitted j v is_sent in
-            record { own = known.own; known = λ key among. Contains-append_left _ _ key (known.known key among) }) may.lawful);
         members = λ j x e. rw (sent_is, flat_map-append keys_of w.typed keys) (member_sound j x e);
       }
 
@@ -159,27 +135,21 @@ module _ (laws : Laws) {w : World} (h : IsSound w) (i : ℕ) {m : Member} (there
 -- ---- a change at which nothing is sent
 
 module _ (laws : Laws) {w : World} (h : IsSound w) (i : ℕ) {m : Member} (there : member_at w.members i ≡ Some m) where
-  -- the node has changed, and its record is the same or one of a failed save
-  changed_sound : (new : Member) (failed : List Change)
-      → ((change : Change) → Contains failed change → MaySave (world_state w).sent m.kept change)
-      → Stored m.kept failed new.kept → SoundAt w i new → IsSound (with_member w i new)
-  changed_sound new failed may stored own =
-      let places = length-set w.members (i - 1) new ∙ h.places in
-      let grew =
-      laws.restarts.ensures w.group.size i (world_state w).sent (λ j. ((world_state w).seats j).kept)
-      (λ j. ((world_state (with_member w i new)).seats j).kept) failed h.grew (rw there may)
-      (rw (there, changed_here w.members i m new there) stored) (λ j ne. rw (changed_elsewhere w.members i j m new there ne) refl) in
-      let members = each_changed w.members i m new there (SoundAt w) own (λ j x ne e. h.members j x e) in
-      assumption
-
-  -- the same if its record is the same
-  kept_sound : (new : Member) → new.kept ≡ m.kept → SoundAt w i new → IsSound (with_member w i new)
-  kept_sound new e own = changed_sound new [] (λ change among. absurd (omega (arith, among.1))) (inl e) own
+  changed_sound : (new : Member) → SoundAt w i new → IsSound (with_member w i new)
+  changed_sound new own = record {
+    size = h.size;
+    session = h.session;
+    places = length-set w.members (i - 1) new ∙ h.places;
+    spelled = h.spelled;
+    members = each_changed w.members i m new there (SoundAt w) own (λ j x ne e. h.members j x e);
+  }
 
   -- the node goes down, with its record
   pub crash_sound : IsSound (world_after_fall w i m m.kept)
   crash_sound =
-      let own = h.members i m there in kept_sound (record { kept = m.kept; console = m.console; node = None }) refl assumption
+      let own = h.members i m there in
+      changed_sound (record { kept = m.kept; console = m.console; node = None })
+      (record { ranges = own.ranges; backed = own.backed; running = tt })
 
   -- a save that fails keeps the world sound
   pub fall_sound : (made : Response) {progress : Progress} {keys : List Value} → MayMake w i m made progress keys
@@ -187,17 +157,13 @@ module _ (laws : Laws) {w : World} (h : IsSound w) (i : ℕ) {m : Member} (there
       → IsSound (world_after_fall w i m (if is_changed then made.node.kept else m.kept))
   fall_sound made may false c e = crash_sound
   fall_sound made may true c e =
-      let saved = rw e at may.lawful.saves in
       let own = h.members i m there in
-      changed_sound (record { kept = made.node.kept; console = m.console; node = None }) (c ∷ [])
-      (λ change among. subst (MaySave (world_state w).sent m.kept) (only_in c change among) saved.0)
-      (inr (c, Contains-push [] c, saved.1))
+      changed_sound (record { kept = made.node.kept; console = m.console; node = None })
       (record {
         ranges = rw may.me_is at may.ranges.kept;
         backed = rw may.me_is at
             (laws.lawful_calls_go_on.ensures.saved _ _ m.kept made.node.kept may.before made
             (rw may.me_is own.backed) may.lawful (inr refl));
-        shown = own.shown;
         running = tt;
       })
 
@@ -206,40 +172,37 @@ module _ (laws : Laws) {w : World} (h : IsSound w) (i : ℕ) {m : Member} (there
 module _ (laws : Laws) {w : World} (h : IsSound w) {i : ℕ} {m : Member} {q : Running} (up : IsUp w i m q) where
   -- the machine's progress changes, and perhaps the console
   played_sound : (progress : Progress) (console : List ℕ) → progress.program ≡ q.progress.program → IsReplay (input q.known) progress
-      → progress.released ≤ length console → IsShown w.program w.group.size (world_state w).sent console
       → IsSound (with_member w i (record { kept = m.kept; console = console; node = Some (record q { progress = progress }) }))
-  played_sound progress console program replay few shown =
+  played_sound progress console program replay =
       let sound = running h up in
       let own = h.members i m up.there in
-      let same = program ∙ sound.program in kept_sound laws h i up.there _ refl assumption
+      changed_sound laws h i up.there _ (record {
+        ranges = own.ranges;
+        backed = own.backed;
+        running = record {
+          me_is = sound.me_is;
+          kept_is = sound.kept_is;
+          ranges = sound.ranges;
+          backs = sound.backs;
+          program = program ∙ sound.program;
+          replay = replay;
+        };
+      })
 
-  pub run_sound : (progress : Progress) → progress.program ≡ q.progress.program
-      → progress.released ≡ q.progress.released → IsReplay (input q.known) progress
+  pub run_sound : (progress : Progress) → progress.program ≡ q.progress.program → IsReplay (input q.known) progress
       → IsSound (with_member w i (at_progress m q progress))
-  run_sound progress program same replay =
-      played_sound progress m.console program replay (rw same (running h up).shown) (h.members i m up.there).shown
+  run_sound progress program replay = played_sound progress m.console program replay
 
   -- a release, if a byte waits
   released_sound : (o : Option ℕ) → slice_get (written q) q.progress.released ≡ o → IsSound (with_member w i (member_after_release m q o))
-  released_sound None e = kept_sound laws h i up.there m refl (h.members i m up.there)
+  released_sound None e = changed_sound laws h i up.there m (h.members i m up.there)
   released_sound (Some byte) e =
       let sound = running h up in
-      let play : PlayLaws = assumption in
-      let offer = offer_fits play h up byte e in
-      let shown : IsShown w.program w.group.size (world_state w).sent (offered m.console q.progress.released byte) =
-      elim (same_or_prefix offer) [
-        | inl same ↦ rw same (h.members i m up.there).shown
-        | inr begins ↦ record {
-          values = front_values q.known.learner.learned;
-          chosen = front_chosen play.fronts sound.learned;
-          output = (q.progress.steps, rw sound.program at begins);
-        }
-      ] in
       played_sound (record q.progress { released = q.progress.released + 1 }) _ refl (record {
         made = sound.replay.made;
         released = omega (arith, slice_get_within (written q) q.progress.released byte e);
         few = omega (arith, sound.replay.few, length-drop {A = ℕ});
-      }) (shown_then offer) shown
+      })
 
   pub release_sound : IsSound (with_member w i (member_after_release m q (next_of q)))
   release_sound = released_sound (next_of q) (next_written q)

@@ -3,12 +3,12 @@ use Rattle.std.proofs.Common.{Contains, ◌≡◌, ◌∙◌, ℕ, ◌<◌, ◌+
 use Rattle.group_protocol.specs.Known.{Response, on_start}
 use Rattle.group_world.proofs.CallCases.{campaign_cases, press_cases, start_cases}
 use Rattle.std.proofs.lemmas.Bool.Decides.{nat_tests}
-use Rattle.group_world.proofs.OrderLists.{of_filter_map}
+use Rattle.group_rules.proofs.Lists.{of_filter_map}
 use Rattle.std.proofs.lemmas.Option.{same_Some}
 use Rattle.std.proofs.lemmas.List.Elements.{All-contains, All-nil}
 use Rattle.paxos_msg.specs.declared.message.Group.{Group}
 use Rattle.paxos_msg.specs.declared.value.Value.{Value}
-use Rattle.paxos_msg.specs.Batches.{Msg, Record, Change, Body}
+use Rattle.paxos_msg.specs.Batches.{Msg, Record, Change}
 use Rattle.paxos_msg.specs.Fits.{IsGroup}
 use Rattle.paxos_msg.specs.Keys.{Key, keys_of}
 use Rattle.group_protocol.specs.Protocol.{on_message}
@@ -16,10 +16,12 @@ use Rattle.group_protocol.specs.Tick.{on_tick}
 use Rattle.group_node.specs.Output.{no_progress, Progress, IsReplay, RunsOn}
 use Rattle.group_protocol.specs.Ranges.{IsFit, IsHeardFit, IsMember}
 use Rattle.group_protocol.specs.Steps.{IsLawfulCall}
-use Rattle.group_world.specs.Group.{IsDown, IsUp, me_of, message_of, messages_in, World, world_state, seat_of_member, up_of, with_member, member_at, new_world}
+use Rattle.group_world.specs.Group.{IsDown, IsUp, me_of, message_of, messages_in, World, with_member, member_at, new_world}
+use Rattle.group_world.specs.Group.{world_state, seat_of_member, up_of}
 use Rattle.group_node.specs.NodeCalls.{Running, NodeCall, Makes, Refuses, call_of_campaign, call_of_press, call_of_start}
 use Rattle.group_world.specs.Member.{Member, failing, save_outcome, at_progress, member_after_release}
-use Rattle.group_world.specs.Sound.{IsSound, IsSpelling}
+use Rattle.group_world.specs.Sound.{IsSpelling}
+use Rattle.group_world.specs.Sound.{IsSound}
 use Rattle.std.specs.FinMap.{empty}
 use Rattle.group_world.proofs.WorldAsGroup.{RunsAt, is_node, running, called_state, member_state, changed_elsewhere, changed_here, SoundAt, first_node, stopped}
 use Rattle.group_world.proofs.laws.sound.deeds_keep_it_sound.Answers.SoundAfterChange.{Laws, MayMake, call_sound, crash_sound, fall_sound, release_sound, run_sound}
@@ -31,19 +33,19 @@ use Rattle.group_protocol.specs.States.{IsSize}
 use Rattle.group_node.specs.States.{input}
 use Rattle.group_node.specs.Deeds as deed
 use Rattle.group_node.specs.Deeds.{Deed}
-use Rattle.group_node.specs.World as group
-use Rattle.group_node.specs.World.{SitsSoundly, Sits, WorldStep, after_call, with_seat, ChangesOnly, WorldState}
+use Rattle.group_rules.specs.Rules as group
+use Rattle.group_rules.specs.Rules.{SitsSoundly, Sits, WorldStep, after_call, with_seat, ChangesOnly, WorldState}
 use Rattle.group_world.specs.declared.event.Done.{Done}
 use Rattle.group_world.specs.declared.event.Done.TheVariants.{Applied}
 use Rattle.group_world.specs.Deeds.{DoesDeed, EndsCall, Left, quietly}
 use Rattle.group_world.proofs.CallLeaves.{Leaves, LeavesBy, idle_leads, leaves_so, quiet_leads, world_after_call, world_after_fall}
-use Rattle.group_world.specs.Event.{DoesAt, HearsOf, IsStepAt, world_after}
+use Rattle.group_world.specs.Event.{DoesAt, HearsOf, world_after}
+use Rattle.group_world.specs.Event.{IsStepAt}
 use Rattle.pcode_file.specs.Parts.{Parts}
 use Rattle.paxos_msg.specs.Records.{empty_record}
 use Rattle.group_node.specs.declared.player.Ran.{Ran}
-use Rattle.group_world.proofs.SoundWorldsAgree.{next_of, next_written, written}
+use Rattle.group_world.proofs.Written.{next_of, next_written, written}
 use Rattle.std.proofs.lemmas.List.{length-replicate}
-use Rattle.paxos_msg.specs.Messages.{IsSent}
 
 -- ---- a call that a deed makes
 
@@ -88,7 +90,6 @@ module _ (laws : Laws) {w : World} (h : IsSound w) {i : ℕ} {m : Member} {q : R
         fits = rw sound.me_is at fits.sends;
         program = sound.program;
         replay = laws.learning_keeps_the_output.ensures.replay q.known.learner.learned _ q.progress lawful.keeps sound.replay;
-        shown = sound.shown;
       }
 
   -- where nothing is typed
@@ -250,7 +251,6 @@ module _ (laws : Laws) {w : World} (h : IsSound w) (i : ℕ) {m : Member} (down 
         fits = fits.sends;
         program = refl;
         replay = laws.learning_keeps_the_output.ensures.begins w.program _;
-        shown = omega arith;
       }
 
   start_steps : StepsCall w (deed.Start m.kept) i m (no_progress w.program) (call_of_start (me_of w i) m.kept)
@@ -321,7 +321,7 @@ module _ (laws : Laws) {w v : World} (h : IsSound w) (i : ℕ) (m : Member) (the
       let up_so : IsUp w i m q = record { there = there; up = up } in
       let rest = runs.runs.rest in
       rw (quiet_answer is, leads ∙ quiet_leads w i m there is, runs.new_is) (
-        run_sound laws h up_so runs.progress (ap (λ (x : Progress). x.program) rest) (ap (λ (x : Progress). x.released) rest) runs.replay,
+        run_sound laws h up_so runs.progress (ap (λ (x : Progress). x.program) rest) runs.replay,
         run_steps laws h up_so most runs.progress runs.ran runs.runs runs.replay,
       )
   deed_goes_on deed.Release heard (q, up, is) =
@@ -340,9 +340,6 @@ deeds_go_on laws w v i plan e d h heard at =
 
 -- ---- before all events
 
-nothing_sent : {i : ℕ} {body : Body} → IsSent [] i body → ⊥
-nothing_sent there = absurd (omega (arith, there.1))
-
 module _ (laws : Laws) (p : Parts) (group : Group) where
   first_sound : (i : ℕ) → SoundAt (new_world p group) i (stopped empty_record)
   first_sound i = grind arith
@@ -353,10 +350,5 @@ module _ (laws : Laws) (p : Parts) (group : Group) where
     session = session;
     places = length-replicate group.size _;
     spelled = All-nil _;
-    grew =
-        laws.growth.ensures.begins group.size (λ i. ((world_state (new_world p group)).seats i).kept)
-        (λ i. grind (arith, nat_tests, first_node p group i));
-    told = λ s v said. absurd (nothing_sent said.1);
-    submitted = λ i v said. absurd (nothing_sent said);
     members = λ i m there. subst (SoundAt (new_world p group) i) (first_node p group i m there) (first_sound i);
   }

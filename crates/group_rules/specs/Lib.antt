@@ -1,0 +1,11 @@
+pub mod Rules
+pub mod Leads
+pub mod Claims
+pub mod Invariants
+pub mod WrongSteps
+pub mod SmallPrograms
+pub mod RightGroups
+pub mod WeakerRules
+pub mod WithoutRules
+pub mod WrongGroups
+pub mod WrongWorlds
