@@ -3,16 +3,21 @@ started, in the boot in which they were written and in another one."""
 
 import os
 
+from shared.synced import first_kept
+
 from ..checks import expect, passed
 from ..files import bytes_of, file_with
 from ..group import await_that, type_at
 from ..program import must
+from ..scripts import expect_end
 from ..supervised import group_of
 
 # The boot of this machine, and another one.
 with open("/proc/sys/kernel/random/boot_id", encoding="ascii") as its_boot:
     HERE = its_boot.read().strip()
 OTHER = "00000000-0000-4000-8000-000000000001"
+# The least --console-limit, and how many equal letters a long console has in a line.
+KEPT, LINES = 65536, 1000
 # What the echo shows once `one` and a line feed were typed.
 SHOWN = b"> one\n> "
 # What is there when the node is started: of what kind that is, the console, how many bytes the note
@@ -135,6 +140,50 @@ def check_unsynced(folder):
         go_on(it, b"x", SHOWN + b"xx")
         is_so = bytes_of(it.console + ".synced") == note_of(len(SHOWN) + 2, HERE)
         expect("it is noted once that can be done", is_so)
+    finally:
+        it.end()
+
+
+def put_long(it, boot):
+    """Makes a long console that was synced in a boot. The node behind it shows nothing yet."""
+    data = bytes(97 + at // LINES % 26 for at in range(3 * KEPT))
+    file_with(it.folder, "console1", data)
+    file_with(it.folder, "console1.synced", note_of(len(data), boot))
+    return data
+
+
+def check_limit(folder):
+    """Of a long console the oldest bytes are given back, none changes its place, and the node goes
+    on behind it, also in another boot. Without its note it is written anew."""
+    it = group_of(1, folder, silent=0.3)[0]
+    limit = ["--console-limit", str(KEPT)]
+    done = it.run("--new", "--console-limit", str(KEPT - 1))
+    expect_end("--console-limit that is too small", done, 2, "usage")
+    try:
+        it.start("--new")
+        type_at(it.keys, b"one\n")
+        await_shown(it, SHOWN)
+        end_by_signal(it)
+        data = put_long(it, HERE)
+        it.start(*limit)
+        await_that(lambda: first_kept(it.console) > 0, "the oldest bytes are given back")
+        end_by_signal(it)
+        first, came = first_kept(it.console), bytes_of(it.console)
+        is_so = came == bytes(first) + data[first:] and KEPT <= len(data) - first < KEPT + 4096
+        expect("a console with a limit: the last bytes are there, each in its place", is_so)
+        is_so = os.stat(it.console).st_blocks * 512 < len(data) - first + 8192
+        expect("the others are given back to the disk", is_so, os.stat(it.console))
+        note = note_of(len(data), HERE)[:-1] + b" from %d\n" % first
+        is_so = bytes_of(it.console + ".synced") == note
+        expect("the note says from where on they are there", is_so)
+        file_with(folder, "console1.synced", note.replace(HERE.encode(), OTHER.encode()))
+        it.start()
+        end_by_signal(it)
+        is_so = "cuts the console" not in it.said() and bytes_of(it.console) == came
+        expect("after a boot nothing of it is cut", is_so, it.said())
+        os.remove(it.console + ".synced")
+        go_on(it, b"x", SHOWN + b"x")
+        expect("without its note it is written anew", first_kept(it.console) == 0)
     finally:
         it.end()
 

@@ -212,12 +212,15 @@ def read_record(path):
 class Head:
     """The record of a file without its votes, again and again: of a log each time only what was
     appended is read, and of a whole record never its votes. So it takes no longer where there are
-    many. `under` counts the votes of a log under the ballot that it has promised."""
+    many. `under` counts the votes of a log under the ballot that it has promised. `before_last` has
+    the starts, the promised ballot and `under` before the log's last entry, and `places` how many
+    places there are up to the last one with a vote; None of a whole record."""
 
     def __init__(self, path):
         self.path = path
         self.inode = None  # of the log that was read, up to `at`, and has this record up to there
-        self.at, self.record, self.under = 0, None, 0
+        self.at, self.record, self.under, self.before_last = 0, None, 0, (0, None, 0)
+        self.places = None
 
     def read(self):
         with open(self.path, "rb") as file:
@@ -230,9 +233,9 @@ class Head:
             file.seek(LOG_HEADER)
             self.under = 0
             if letters == b"PR":
-                self.inode = None
+                self.inode = self.places = None
                 return self.whole(file, record)
-            self.inode, self.at, self.record = inode, LOG_HEADER, record
+            self.inode, self.at, self.record, self.places = inode, LOG_HEADER, record, 0
             return self.follow(file.read())
 
     def whole(self, file, record):
@@ -241,6 +244,7 @@ class Head:
 
     def note(self, record, tag, ballot):
         """The log has an entry of this tag and ballot over this record."""
+        self.before_last = record.starts, record.promised, self.under
         if tag != START and (record.promised is None or record.promised < ballot):
             self.under = 0
         self.under += tag == VOTE
@@ -254,6 +258,7 @@ class Head:
             self.inode = None
             raise
         self.at += reader.at
+        self.places = max([self.places, *(it + 1 for it in self.record.votes)])
         return self.kept(self.record)
 
     def kept(self, record):

@@ -47,6 +47,12 @@ def point_of_head(head, record):
     return Point(record.starts, record.promised or NONE, head.under)
 
 
+def point_before(head):
+    """How far the log had come before its last entry that the head has read."""
+    starts, promised, under = head.before_last
+    return Point(starts, promised or NONE, under)
+
+
 def is_behind(point, other):
     """Whether a record of this point lacks changes of a record of the other one."""
     return point.starts < other.starts or point[1:] < other[1:]

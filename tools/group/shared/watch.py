@@ -238,8 +238,11 @@ class Group:
         sessions = sorted({it.record.session for it in self.nodes if it.record})
         what = "session" if len(sessions) < 2 else "different sessions"
         names = ", ".join(str(it) for it in sessions)
+        elsewhere = max(0, size - len(self.nodes))  # Of these nodes nothing is seen here.
         majority = "a majority" if 2 * up > size else "no majority"
-        who = "nobody leads"
+        if majority == "no majority" and 2 * (up + elsewhere) > size:
+            majority = "whether a majority runs is unknown"
+        who = "who leads is unknown" if elsewhere else "nobody leads"
         if leader:
             who = f"node {leader.node} leads, ballot {text_of_ballot(leader)}"
         return f"{what} {names}: {up} of {size} nodes run here, {majority}; {who}"

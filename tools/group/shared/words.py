@@ -18,6 +18,14 @@ def address_of(text):
     return ".".join(str(it) for it in numbers), int(match[2])
 
 
+def host_of(text):
+    """The address `a.b.c.d` of a machine."""
+    try:
+        return address_of(f"{text}:1")[0]
+    except argparse.ArgumentTypeError:
+        raise argparse.ArgumentTypeError(f"{text} is no address of a machine such as 10.7.0.4")
+
+
 def text_of_address(address):
     return f"{address[0]}:{address[1]}"
 

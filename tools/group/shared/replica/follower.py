@@ -62,9 +62,12 @@ class Follower:
         self.move()
 
     def move(self):
-        self.last, self.call = self.call, None
-        if isinstance(self.after, Call):
-            self.call, self.after = self.after, self.take()
+        self.last, call = self.call, self.after
+        if type(call) is Call:
+            self.call = call
+            self.after = self.seen.popleft() if self.seen else next(self.items, None)
+        else:
+            self.call = None
 
     def is_last(self):
         """Whether the call is the last one of its process."""

@@ -83,7 +83,7 @@ class Following:
             step = self.step(follower)
             self.note_next(follower)
             if step is not None:
-                if self.waiting:
+                if self.waiting and step[1].sends:
                     self.wake(step[1].sends)
                 yield step
 
@@ -104,22 +104,30 @@ class Following:
         else:
             follower.rank = call.time or 0, follower.done, follower.number
             if call.kind == "hear" and not self.messages.is_kept(follower.number, call.data):
-                follower.waits, follower.since = True, self.count
-                if self.late and self.is_from_before(call) and self.believe(follower):
-                    return
-                if not follower.is_late or not self.recall(follower):
-                    follower.is_late = False
-                    self.waiting[call.data].append(follower)
+                self.await_message(follower, call)
+
+    def await_message(self, follower, call):
+        """The node waits for the message that it hears next, unless that was sent long ago or is
+        believed."""
+        follower.waits, follower.since = True, self.count
+        if self.late and self.is_from_before(call) and self.believe(follower):
+            return
+        if not follower.is_late or not self.recall(follower):
+            follower.is_late = False
+            self.waiting[call.data].append(follower)
 
     def wake(self, numbers):
         """Lets those go on that have waited for these messages."""
         for number in numbers:
             sent = self.messages[number]
-            for it in self.waiting.get(sent.data, ()):
+            waiting = self.waiting.get(sent.data)
+            if waiting is None:
+                continue
+            for it in waiting:
                 if it.call.data == sent.data and sent.to in (ALL, it.number):
                     it.waits = False
-            if not any(it.waits for it in self.waiting.get(sent.data, ())):
-                self.waiting.pop(sent.data, None)
+            if not any(it.waits for it in waiting):
+                del self.waiting[sent.data]
 
     def look_back(self, are_all):
         """Looks for the messages of those who wait for long, or of all, among those sent long
@@ -128,15 +136,19 @@ class Following:
             if it.waits and (are_all or it.since + PATIENCE <= self.count):
                 it.is_late = self.recall(it)
                 it.since = self.count
-        waiting = [it for it in self.blocked() if it.call.data[4] in self.late]
+        waiting = [it for it in self.blocked() if self.first_of_sender(it.call) is not None]
         if are_all and waiting and len(self.blocked()) == len(self.active):
             self.believe(min(waiting, key=lambda it: it.rank))
 
     def is_from_before(self, call):
         """Whether a message was heard before the trace of its sender begins, of which the first
         part is gone."""
-        first = self.late.get(call.data[4] if trace.is_datagram(call.data) else None)
+        first = self.first_of_sender(call)
         return first is not None and (call.time or 0) < (first.begun or 0)
+
+    def first_of_sender(self, call):
+        """The first process of a message's sender, if the first part of its trace is gone."""
+        return self.late.get(call.data[4] if trace.is_datagram(call.data) else None)
 
     def believe(self, follower):
         """Takes for sent what was heard of a node of whose trace the first part is gone. Whether it
@@ -178,12 +190,13 @@ class Following:
             step = self.undone(follower, call)
             follower.advance()
             return step
-        if (self.group.nodes[follower.number] is not None) == (call.kind == "start"):
-            state = "not started" if call.kind != "start" else "up"
-            raise Differs(f"{follower.where(call)}: {call.kind} of a node that is {state}")
+        kind = call.kind
+        if (self.group.nodes[follower.number] is not None) == (kind == "start"):
+            state = "not started" if kind != "start" else "up"
+            raise Differs(f"{follower.where(call)}: {kind} of a node that is {state}")
         event = self.event_of(follower, call)
         happened = self.group.do(event)
-        if call.kind == "release":
+        if kind == "release":
             self.check_release(follower, call)
         elif call.sends or happened.sends or happened.refused:
             self.check_call(follower, call, happened)
@@ -201,10 +214,12 @@ class Following:
         return None
 
     def event_of(self, follower, call):
-        if call.kind == "hear":
+        kind = call.kind
+        if kind == "hear":
             return Event("deliver", follower.number, self.number_of(follower, call))
-        amount = call.byte if call.kind == "press" else call.number if call.kind == "run" else None
-        of = call.kind, follower.number, amount
+        of = kind, follower.number, call.byte if kind == "press" else None
+        if kind == "run":
+            of = kind, follower.number, call.number
         event = self.events.get(of)
         if event is None:
             event = self.events[of] = Event(KINDS[call.kind], *of[1:])
@@ -291,7 +306,7 @@ class Following:
         if happened.refused:
             where = follower.where(call)
             raise Differs(f"{where}: {call.kind} is refused by {happened.refused}")
-        came, numbers = call.sends, happened.sends
+        came, numbers = list(call.sends), happened.sends
         sent = [(it.to or trace.ALL, it.data) for it in map(self.messages.__getitem__, numbers)]
         # What follows a call that was the last of its process may be cut off.
         may_lack = follower.is_last() and follower.process.status is None

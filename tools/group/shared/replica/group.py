@@ -71,16 +71,24 @@ class Group:
         before = node.mark()
         node.learner.news = []
         try:
-            change, sends = self.call(node, event)
+            if kind == "deliver":
+                change, sends = node.hear(self.sent[event.number].message)
+            else:
+                change, sends = self.call(node, event)
         except NodeRefused as refused:
             return NOTHING._replace(refused=str(refused))
-        if change is not None and not self.save(event, change):
+        if change is None:
+            has_changed = node.mark() != before
+            if not (has_changed or sends or kind == "start"):
+                return QUIET
+        elif not self.save(event, change):
             return NOTHING._replace(saved=change)
+        else:
+            has_changed = True
         self.nodes[event.node] = node
-        has_changed = change is not None or node.mark() != before
         numbers = self.send(sends) if sends else NONE
-        news = node.learner.news
-        return Happened(change, numbers, news, None, has_changed, has_changed or bool(sends))
+        return Happened(
+            change, numbers, node.learner.news, None, has_changed, has_changed or bool(sends))
 
     def send(self, sends):
         """Sends these messages. Returns their numbers."""

@@ -24,6 +24,7 @@ class Messages:
         # The last messages, from the number `first` on, and how many there are in all.
         self.last, self.first, self.count = collections.deque(), 0, 0
         self.numbers = collections.defaultdict(dict)  # of the last, by whom and content
+        self.to_all = self.numbers[ALL]
         self.recalled = {}
         # By nodes the numbers of recent messages that they have heard.
         self.heard = collections.defaultdict(set)
@@ -39,11 +40,12 @@ class Messages:
     def extend(self, messages):
         number = self.count
         for it in messages:
-            numbers = self.numbers[it.to]
-            before = numbers.get(it.data)
+            numbers, data = self.numbers[it.to], it.data
+            before = numbers.get(data)
             # Those that are not recent are found by the last one alone.
             recent = [old for old in before if old + RECENT >= number] if before else []
-            numbers[it.data] = [*recent, number]
+            recent.append(number)
+            numbers[data] = recent
             number += 1
         self.last.extend(messages)
         self.count = number
@@ -66,12 +68,12 @@ class Messages:
 
     def is_kept(self, node, data):
         """Whether such a message to this node is among those that are kept."""
-        return data in self.numbers[ALL] or data in self.numbers[node]
+        return data in self.to_all or data in self.numbers[node]
 
     def number_of(self, node, data):
         """The number of the kept message that a node has heard now. Of equal ones it is the last
         that the node has not heard, if it is a recent one, or else the last."""
-        numbers = self.numbers[ALL].get(data) or self.numbers[node].get(data)
+        numbers = self.to_all.get(data) or self.numbers[node].get(data)
         if numbers is None:
             return None
         heard, found = self.heard[node], numbers[-1]

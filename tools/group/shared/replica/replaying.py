@@ -7,6 +7,7 @@ import subprocess
 import tempfile
 
 from ..record import Damaged, read_record
+from ..synced import first_kept
 from .cuts import explain, notes_of, text_of_ends, text_of_lost
 from .follower import has_grown
 from .following import Cut, Differs, Following
@@ -163,8 +164,11 @@ def check_consoles(replay, paths):
     may lack the end of the other."""
     followers = replay.following.followers.values()
     for path, follower in zip(paths, followers):
+        console, first = bytes(follower.console), first_kept(path)
         with open(path, "rb") as file:
-            data, console = file.read(), bytes(follower.console)
+            data = file.read()
+        # What the supervisor has given back to the disk is not there to be compared.
+        data = console[:first] + data[first:]
         shorter, longer = sorted((data, console), key=len)
         is_whole = follower.ended.status is not None
         if data != console and (is_whole or not longer.startswith(shorter)):

@@ -42,13 +42,13 @@ class Steps:
         self.count += 1
         if not is_kept:
             return
-        (kind, node, number, outcome), happened, _ = step
-        marks = CHANGED * happened.has_changed + NEWS * happened.is_news
-        sends = len(happened.sends)
+        (kind, node, number, outcome), (_, numbers, _, _, has_changed, is_news), _ = step
+        sends = len(numbers)
+        marks = CHANGED * has_changed + NEWS * is_news
         self.rest += ENTRY.pack(CODES[kind, outcome], node, marks, sends, number or 0)
         if sends:
             self.needed += bytes(sends)
-        if kind == "deliver" and happened.is_news:
+        if is_news and kind == "deliver":
             self.needed[number] = 1
         if not self.count % PIECE:
             self.flush()

@@ -11,6 +11,9 @@ HEAD = re.compile(rb"(?:@(\d{1,15}) )?trace 1 node (\d{1,20}) size (\d{1,20}) se
 HEAD_WORDS = b"trace 1 node "
 LF = 10
 SAVING = {b"start": "start", b"campaign": "campaign"}
+# What was read of HEX last: the same datagram stands in the traces of all that send and hear it. So
+# many are kept, of at most so many digits.
+KNOWN, MOST_KNOWN, MOST_DIGITS = {}, 8192, 1024
 
 
 class Bad(Exception):
@@ -30,7 +33,7 @@ class Call:
 
     def __init__(self, kind, at, time, data=None, source=None, number=None, byte=None):
         self.kind, self.at, self.time, self.data, self.source = kind, at, time, data, source
-        self.number, self.byte, self.sends = number, byte, []
+        self.number, self.byte, self.sends = number, byte, ()
         self.is_done, self.has_failed = True, False
 
 
@@ -47,9 +50,17 @@ class Process:
 
 def bytes_of_hex(text):
     """The bytes of HEX. ValueError where it is none."""
+    data = KNOWN.get(text)
+    if data is not None:
+        return data
     if not text or text.upper() != text:
         raise ValueError
-    return binascii.unhexlify(text)
+    data = binascii.unhexlify(text)
+    if len(text) <= MOST_DIGITS:
+        if len(KNOWN) >= MOST_KNOWN:
+            KNOWN.clear()
+        KNOWN[text] = data
+    return data
 
 
 def number_of(text):
@@ -90,31 +101,43 @@ class Reader:
             raise Bad(f"{self.path}:{self.at}: {text}")
 
     def items(self):
-        made, clock = self.made, None
+        # What lines begin with while the time is the same, and the line and the time before that.
+        clock, since, before = b"", 0, None
+        made = self.made
         with open(self.path, "rb") as file:
             for self.at, line in enumerate(file, 1):
-                if HEAD_WORDS in line and line[-1] == LF and HEAD.search(line):
-                    yield from self.end(line[: HEAD.search(line).start()])
-                    yield self.begin(line)
-                    clock = None
-                    continue
-                if self.is_torn:
-                    continue
                 try:
-                    kind, _, rest = line[: -1 if line[-1] == LF else 0].partition(b" ")
-                    if kind != clock:
-                        self.time = time_of(kind)
-                        clock = kind
-                    if self.time is not None:
-                        kind, _, rest = rest.partition(b" ")
+                    if not clock or line[-1] != LF or not line.startswith(clock):
+                        since, before = self.at, self.time
+                        clock = self.clock_of(line)
+                    kind, _, rest = line[len(clock) : -1].partition(b" ")
                     call = made[kind](rest)
-                except (ValueError, KeyError):
-                    self.refuse(line)
+                except (ValueError, KeyError, Bad) as fault:
+                    if HEAD_WORDS in line and line[-1] == LF and HEAD.search(line):
+                        self.time = before if since == self.at else self.time
+                        yield from self.end(line[: HEAD.search(line).start()])
+                        yield self.begin(line)
+                        made, clock = self.made, b""
+                    elif not self.is_torn:
+                        if isinstance(fault, Bad):
+                            raise
+                        self.refuse(line)
+                        # Behind what was cut off no line has a meaning.
+                        made = {} if self.is_torn else made
                     continue
                 if call is not None:
                     yield call
         self.at += 1
         yield from self.end(b"")
+
+    def clock_of(self, line):
+        """Takes the time of a line, and returns what it begins with then."""
+        if line[-1] != LF:
+            self.time = None
+            raise ValueError
+        first = line[:-1].partition(b" ")[0]
+        self.time = time_of(first)
+        return b"" if self.time is None else first + b" "
 
     def refuse(self, line):
         """A line that is none. What was cut off is left, and all behind it up to the next
@@ -226,7 +249,10 @@ class Reader:
         data, to = bytes_of_hex(data), ALL if to == b"all" else number_of(to)
         if not is_datagram(data):
             self.must(False, "what was sent is no datagram")
-        self.call.sends.append((to, data))
+        if self.call.sends:
+            self.call.sends.append((to, data))
+        else:
+            self.call.sends = [(to, data)]
 
     def on_failed(self, rest):
         kind = rest.decode("ascii", "replace")

@@ -1,12 +1,14 @@
 """Heartbeats of supervisors: their text, and the socket where they come and go."""
 
 import collections
+import contextlib
 import errno
 import re
 import select
 import socket
 import time
 
+from ..asking.texts import ASK
 from ..files import Refused
 from ..record import Ballot
 from ..seen import said_in, text_of_said, took_of
@@ -48,7 +50,7 @@ class Beats:
 
     A heartbeat is one line. What else is told follows in a datagram of its own, `pgroup seen`,
     which supervisors of earlier versions pass over. With a key the heartbeat stands in that
-    datagram too, which is signed, and what comes unsigned or once more counts for nothing."""
+    datagram, which is signed, and what comes unsigned or once more counts for nothing."""
 
     def __init__(self, session, me, addresses, key=None):
         self.session, self.me, self.addresses, self.key = session, me, addresses, key
@@ -59,6 +61,9 @@ class Beats:
         # Of each node, how many datagrams came since the last that was signed; and of which ones
         # that was said.
         self.unsigned, self.strangers = collections.Counter(), set()
+        # What is answered to a question of state: its bytes and source are given, and bytes or None
+        # are returned.
+        self.answer_to = lambda data, source: None
         self.socket = socket.socket(socket.AF_INET, socket.SOCK_DGRAM)
         self.socket.setblocking(False)
 
@@ -84,7 +89,7 @@ class Beats:
     def send(self, beat, lines=()):
         """Sends the heartbeat, and these lines, if there are any."""
         line = text_of_beat(beat)
-        datagrams = [line]
+        datagrams = [] if self.key else [line]
         if lines or self.key:
             datagrams.append(self.said(line, lines))
         for address in self.nodes:
@@ -115,18 +120,28 @@ class Beats:
             except OSError:
                 continue
             node = self.nodes.get(source)
-            if node:
+            if data.startswith(ASK):
+                self.answer(data, source)
+            elif node:
                 beat, said = self.checked(data, node) if self.key else self.plain(data, node)
                 if beat or said:
                     yield node, beat, said
+
+    def answer(self, data, source):
+        answer = self.answer_to(data, source)
+        if answer:
+            with contextlib.suppress(OSError):  # What is not sent is lost.
+                self.socket.sendto(answer, source)
 
     def mine(self, it, node):
         """A heartbeat or what else was said, if it is of this session and node."""
         return it if it and (it.session, it.node) == (self.session, node) else None
 
     def plain(self, data, node):
+        """Without a key. The heartbeat of one who has a key stands in what else is said."""
         beat = self.mine(beat_of(data), node)
-        return beat, None if beat else self.mine(said_in(data), node)
+        said = None if beat else self.mine(said_in(data), node)
+        return beat or said and self.mine(beat_of(said.lines[0]), node), said
 
     def checked(self, data, node):
         """With a key. What comes once more counts for nothing, but for runs: that a record was so

@@ -11,44 +11,35 @@ begin in any case, and --seen says how much of the output is there.
 
 The console is synced before it is noted, and what is noted is never changed. So at each moment the
 note is right, also an older one that comes back with a cut of the power. A console that is no
-regular file, such as a terminal or a pipe, has none."""
+regular file, such as a terminal or a pipe, has none.
 
-import collections
+With a limit the oldest bytes are given back to the disk, as a hole in the file (fallocate), so that
+its length still counts all that was written: no byte changes its place, for --seen and for those
+who follow the console. The note says from where on the bytes are there, and is in its place before
+the hole is made."""
+
 import contextlib
+import ctypes
 import errno
 import os
-import re
 import stat
 import threading
 
+from ..files import text_of_fault
+from ..synced import Note, note_at, synced_path, text_of_note
 from ..whole import put_whole, remove_whole
 
 # The least time between two syncs, and how long the end of one is waited for, in seconds.
 PAUSE, LONGEST = 2.0, 0.5
-# How many bytes of a console are read at once.
-PIECE = 1 << 20
+# How many bytes of a console are read at once, and of how many whole ones a hole is made.
+PIECE, BLOCK = 1 << 20, 4096
+# With a limit there may be so many times as many bytes before a hole is made.
+MORE = 1.25
+# Of fallocate: a hole, and the length stays.
+HOLE = 3
 BOOT = "/proc/sys/kernel/random/boot_id"
 # A boot that is no other's, and not trusted.
 NO_BOOT = "-"
-
-# How many bytes were synced, and the boot in which nothing else was done to the console.
-Note = collections.namedtuple("Note", "length boot")
-NOTE = re.compile(rb"pgroup console synced (\d{1,19}) boot ([0-9a-f-]{1,64})\n")
-
-
-def text_of_note(note):
-    return f"pgroup console synced {note.length} boot {note.boot}\n".encode("ascii")
-
-
-def note_at(path):
-    """The note in a file, or None where it cannot be read."""
-    try:
-        with open(path, "rb") as file:
-            found = NOTE.fullmatch(file.read(128))
-    except OSError:
-        return None
-    return found and Note(int(found[1]), found[2].decode("ascii"))
-
 
 def boot_of_machine():
     """What the system calls its present boot."""
@@ -83,13 +74,24 @@ def nuls_in(path, first, last):
     return count
 
 
-class Console:
-    """The console at a path. It is opened anew for each process of the node."""
+def make_hole(file, length):
+    """Gives the first bytes of a file back to the disk. They read as zeros then."""
+    fallocate = ctypes.CDLL(None, use_errno=True).fallocate64
+    fallocate.argtypes = [ctypes.c_int, ctypes.c_int, ctypes.c_int64, ctypes.c_int64]
+    if fallocate(file, HOLE, 0, length):
+        number = ctypes.get_errno()
+        raise OSError(number, os.strerror(number))
 
-    def __init__(self, path):
-        self.path, self.place = path, None
+
+class Console:
+    """The console at a path, of which at least the last `limit` bytes stay, or all. It is opened
+    anew for each process of the node."""
+
+    def __init__(self, path, limit=None):
+        self.path, self.place, self.limit = path, None, limit
         self.file = self.noted = self.fault = None
         self.boot, self.due, self.syncing = boot_of_machine(), 0.0, None
+        self.cannot_cut = False
 
     def open(self):
         """Opens it and cuts what is not trusted, once no process writes to it. Returns what is said
@@ -98,12 +100,16 @@ class Console:
             raise BlockingIOError(errno.EAGAIN, "waits for its disk", self.path)
         self.close()
         self.file = open_console(self.path)
-        self.due, self.place = 0.0, None
+        self.due, self.place, self.cannot_cut = 0.0, None, False
         if not stat.S_ISREG(os.fstat(self.file).st_mode):
             return None
-        self.place = os.path.realpath(self.path) + ".synced"
+        self.place = synced_path(self.path)
         self.noted = note_at(self.place)
         return self.mend()
+
+    def known_length(self):
+        """How many bytes were written to it, or None where that is not known."""
+        return self.length() if self.file is not None and self.place is not None else None
 
     def length(self):
         return os.fstat(self.file).st_size
@@ -117,8 +123,9 @@ class Console:
         nuls = nuls_in(self.path, kept, length)
         if is_followed and not nuls:
             return None
-        if not is_followed and nuls_in(self.path, 0, kept):
-            nuls, kept = nuls_in(self.path, 0, length), 0
+        first = note.first if kept else 0
+        if not is_followed and nuls_in(self.path, first, kept):
+            nuls, kept = nuls_in(self.path, first, length), 0
         if note and note.length != kept:
             remove_whole(self.place)
         self.noted = note if note and note.length == kept else None
@@ -132,8 +139,18 @@ class Console:
         )
 
     def is_due(self):
-        """Whether there is more than what was noted."""
-        return self.place is not None and self.noted != Note(self.length(), self.boot)
+        """Whether there is more than what was noted, or more than there may be."""
+        if self.place is None:
+            return False
+        length, noted = self.length(), self.noted
+        return noted is None or noted != Note(length, self.boot, self.first_at(length))
+
+    def first_at(self, length):
+        """From where on the bytes stay, where there are so many."""
+        first = self.noted.first if self.noted else 0
+        if self.limit is None or self.cannot_cut or length - first <= MORE * self.limit:
+            return first
+        return max(first, (length - self.limit) // BLOCK * BLOCK)
 
     def tend(self, now):
         """Lets it be synced where it has grown, now and then. Nothing waits for that: a disk may
@@ -163,9 +180,24 @@ class Console:
                 self.place = None
             else:
                 self.sync_file()
-                self.note(Note(length, self.boot))
+                self.note_from(length, self.first_at(length))
         except OSError as fault:
-            self.fault = fault
+            more = "after a cut of the power more of it is written again"
+            self.fault = f"cannot sync its console: {text_of_fault(fault)}; {more}"
+
+    def note_from(self, length, first):
+        """Notes that all was synced, and gives back to the disk what is before this byte."""
+        before = self.noted.first if self.noted else 0
+        self.note(Note(length, self.boot, first))
+        if first == before:
+            return
+        try:
+            make_hole(self.file, first)
+        except OSError as fault:
+            # It is not tried again for this process.
+            self.cannot_cut = True
+            self.note(Note(length, self.boot, before))
+            self.fault = f"keeps all of its console {self.path}: {fault.strerror}"
 
     def sync_file(self):
         try:

@@ -27,6 +27,8 @@ LIBC = ctypes.CDLL(None)
 # The least and the greatest pause before a node is started again, and how long a node has to run
 # for the pause to be the least again, in seconds.
 PAUSE, LONGEST_PAUSE, STEADY = 0.1, 5.0, 2.0
+# What a node's log says of something that went wrong begins so.
+FAULTS = ("campaign refused", "no room for typed keys", "cannot send", "dropped", "trace lost")
 
 
 def end_with(parent):
@@ -39,6 +41,17 @@ def end_with(parent):
 def activity_of(pid):
     """What grows while a process runs: its processor time, and how often it was given a processor.
     A node that has nothing to do takes a turn every 10 to 200 milliseconds."""
+    try:
+        with open(f"/proc/{pid}/schedstat", "rb", buffering=0) as file:
+            return file.read(64)
+    except FileNotFoundError:
+        return slow_activity_of(pid)  # The kernel keeps no such counts, or the process has ended.
+    except OSError:
+        return None
+
+
+def slow_activity_of(pid):
+    """The same from files that the kernel takes longer to make."""
     try:
         with open(f"/proc/{pid}/status", encoding="ascii", errors="replace") as status:
             switches = [int(line.split()[1]) for line in status if "ctxt_switches" in line]
@@ -54,16 +67,25 @@ class Node:
         self.words = words
         self.is_new = words.new
         self.process, self.before, self.text = None, None, None
-        self.console, self.activity, self.speech = Console(words.console), None, None
+        self.console = Console(words.console, words.console_limit)
+        self.activity, self.speech = None, None
         self.is_held = False
+        # How the program has ended, by this process of the node, or None; and what went wrong last,
+        # with its time.
+        self.end, self.fault = None, None
         self.started = self.moved = 0
         self.pause, self.due = PAUSE, time.monotonic()
 
     def tell(self, text):
         """Says what keeps the node from starting, once."""
         if text != self.text:
-            say(self.words, text)
+            self.complain(text)
         self.text = text
+
+    def complain(self, text):
+        """Says what went wrong, and remembers it."""
+        self.fault = time.time(), text
+        say(self.words, text)
 
     def are_ports_free(self):
         for address in (self.words.nodes[self.words.id - 1], self.words.keys):
@@ -113,7 +135,8 @@ class Node:
         self.speech = speech
         self.started = self.moved = now
         self.is_held = False
-        self.tell(f"started, process {self.process.pid}")
+        self.end, self.text = None, None
+        say(self.words, f"started, process {self.process.pid}")
 
     def open_console(self):
         """Opens the console while no other process is at the record, so that none writes to it.
@@ -129,8 +152,7 @@ class Node:
         self.console.tend(now)
         fault, self.console.fault = self.console.fault, None
         if fault:
-            more = "after a cut of the power more of it is written again"
-            self.tell(f"cannot sync its console: {text_of_fault(fault)}; {more}")
+            self.tell(fault)
 
     def tend(self, now):
         """Starts the node if it is due, and notes that it has ended, or how it does."""
@@ -150,10 +172,13 @@ class Node:
             pass  # The system cannot say it now.
 
     def note(self, text):
-        """Says what a line of the node's log means for a person."""
+        """Says what a line of the node's log means for a person, and remembers what went wrong."""
         end = end_of(text)
+        if text.startswith(FAULTS):
+            self.fault = time.time(), text
         if end is not None:
             how = f", by {end}" if end else ""
+            self.end = end
             goes_on = "it goes on, and nobody reads what is typed"
             say(self.words, f"says that the program has ended{how}; {goes_on}")
 
@@ -165,7 +190,7 @@ class Node:
         if status == 0 or now - self.started > STEADY:
             self.pause, self.due = PAUSE, now
         why = f", {self.why_refused()}" if status == 1 and sentence_of(self.speech.last) else ""
-        say(self.words, f"ended {status_text(status)}{why}; the node is started again")
+        self.complain(f"ended {status_text(status)}{why}; the node is started again")
 
     def why_refused(self):
         """The code with which the node has refused, its sentence, and of a record that cannot be
@@ -185,7 +210,7 @@ class Node:
             self.is_held = False
         elif not self.is_held and now - self.moved >= self.words.silent:
             self.is_held = True
-            say(self.words, f"does not move: {self.what_holds()}")
+            self.complain(f"does not move: {self.what_holds()}")
 
     def what_holds(self):
         try:

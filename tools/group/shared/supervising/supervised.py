@@ -1,17 +1,27 @@
 """The words of `supervise`."""
 
+import argparse
 import os
 import shlex
 import sys
 
-from ..words import address_of
+from ..words import address_of, host_of
 from .traces import limit_of
 
 SHARED = os.path.dirname(os.path.dirname(os.path.realpath(__file__)))
 TOP = os.path.join(SHARED, "..", "..", "..")
 
 
+# The least that is kept of a console, in bytes.
+LEAST_CONSOLE = 65536
 RUN_ON_OLD = "--run-on-an-old-record-though-consoles-may-contradict"
+
+
+def console_limit_of(text):
+    """The word of --console-limit."""
+    if not text.isdigit() or int(text) < LEAST_CONSOLE:
+        raise argparse.ArgumentTypeError(f"{text} is no number of at least {LEAST_CONSOLE} bytes")
+    return int(text)
 
 
 def add_words(add):
@@ -26,6 +36,8 @@ def add_words(add):
         help="the session is no checksum of FILE; nothing checks that all nodes have the same FILE")
     add("--record", metavar="FILE", required=True, help="the node's record")
     add("--console", metavar="FILE", required=True, help="gets the output; made if not there")
+    add("--console-limit", metavar="BYTES", type=console_limit_of,
+        help="keep at least the last BYTES of the console, and give older ones back to the disk")
     add("--trace-limit", metavar="BYTES", type=limit_of,
         help="at each start the trace that PGROUP_TRACE names is put aside, and the oldest goes")
     add("--nodes", metavar="ADDR", type=address_of, nargs="+", required=True,
@@ -33,6 +45,8 @@ def add_words(add):
     add("--keys", metavar="ADDR", type=address_of, required=True, help="where the keys come")
     add("--beats", metavar="ADDR", type=address_of, nargs="+", required=True,
         help="where each supervisor hears heartbeats, in order of the nodes")
+    add("--asked-by", metavar="HOST", type=host_of, nargs="+", default=[],
+        help="machines that may ask for the state of the group, besides those of --beats")
     add("--beats-key", metavar="FILE", help="a key that all supervisors share: what is not signed "
         "with it counts for nothing")
     add("--new-beats-key", action="store_true", help="make the file of --beats-key")

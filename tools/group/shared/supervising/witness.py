@@ -2,9 +2,10 @@
 older than that: a snapshot that was put back, or a disk that has lost what it had synced.
 
 - *Told* is only what is on the disk, or an honest cut of the power would look like a lost record.
-  A node saves one change after another, and goes on only once each is synced. So what a record had
-  is synced where the node has appended more since. Where it has not, the record is synced here
-  before it is told. Nothing is told of a node that has ended meanwhile, as one whose save fails.
+  A node saves one change after another, and goes on only once each is synced. So all of a log but
+  its last entry is synced, once more was appended to it. What it has at last is synced here, where
+  nothing follows, before it is told. Nothing is told of a node that has ended meanwhile, as one
+  whose save fails.
 - *Kept* is what was told, in RECORD.seen beside the record of the supervisor's own node, and the
   counters of datagrams. A snapshot may take it back together with the record, so what the others
   have kept counts as well.
@@ -25,8 +26,8 @@ import time
 from ..files import Refused, say
 from ..record import Damaged, read_record
 from ..seen import (
-    NONE, Point, Run, Table, is_behind, load_seen, point_of, point_of_head, runs_of, seen_path,
-    text_of_old, text_of_points, text_of_run, text_of_said, took_of,
+    NONE, Point, Run, Table, is_behind, load_seen, point_before, point_of, point_of_head, runs_of,
+    seen_path, text_of_old, text_of_points, text_of_run, text_of_said, took_of,
 )
 from ..whole import put_whole, sync_folder
 
@@ -94,14 +95,18 @@ class Progress:
         self.record, self.behind = record, behind
         self.process, self.last, self.synced, self.point = None, None, None, None
 
-    def look(self, process, inode, at, point):
-        """Notes what is in the record now. A log is known by its inode, and reaches up to `at`."""
+    def look(self, process, inode, at, point, before):
+        """Notes what is in the record now. A log is known by its inode, and reaches up to `at`. How
+        far it had come before its last entry is `before`: that entry is of the last save, and those
+        before it in the same save, if any, change nothing."""
         last, self.last = self.last, (inode, at, point)
         if process is not self.process:
             self.process, self.point, self.synced = process, None, None
         elif self.point != point and process.poll() is None:
             is_longer = inode is not None and last[0] == inode and last[1] < at
-            if is_longer or self.synced == last:
+            if is_longer:
+                self.point = before
+            elif self.synced == last:
                 self.point = last[2]
             elif last == self.last:
                 self.behind.do(lambda: sync_record(self.record), lambda: self.note_synced(last))
@@ -121,7 +126,7 @@ class Witness:
         # on an old record, by which run that was noticed.
         self.table, self.mine, self.old = Table(), Table(REMEMBERED), None
         # The first run of the node that was begun here, and the present one; what was told of it.
-        self.runs, self.told = [], None
+        self.runs, self.told, self.said = [], None, None
         # Who has answered and who was heard, since when; and whether the first start may be.
         self.answered, self.heard, self.since, self.is_free = set(), set(), None, words.size == 1
         self.is_changed, self.is_new, self.repeats = False, False, 0
@@ -238,15 +243,22 @@ class Witness:
             if not self.runs[-1].is_started:
                 self.runs[-1] = self.runs[-1]._replace(is_started=True)
             point = point_of_head(head, record)
-            self.progress.look(process, head.inode, head.at, point)
+            self.progress.look(process, head.inode, head.at, point, point_before(head))
             self.note_told(self.progress.point)
         if self.is_changed and now >= self.keep_due and not self.behind.is_busy():
             self.is_changed, self.keep_due = False, now + KEEP_EVERY
             data = self.kept()
             self.behind.do(lambda: put_whole(self.path, data))
 
+    def is_urgent(self, now):
+        """Whether more than votes has to be said: somebody is asked or has asked, or the node has a
+        start or ballot of which nothing was said."""
+        is_new = self.told is not None and self.told[:2] != self.said
+        return not self.is_free or now >= self.all_due or is_new
+
     def lines(self, now):
         """What is said beside the next heartbeat."""
+        self.said = self.told and self.told[:2]
         lines = [] if self.is_free else ["ask"]
         if now >= self.all_due:
             self.all_due, self.repeats = now + ALL_EVERY, 0

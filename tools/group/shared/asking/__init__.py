@@ -1,0 +1,1 @@
+"""Questions of state: what `status` asks the supervisors of a group, from any machine that may."""
