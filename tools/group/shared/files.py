@@ -8,6 +8,7 @@ import sys
 import time
 
 from .codes import with_sentence
+from .journal import SPARING
 from .record import Damaged, read_record
 from .session import session_of
 
@@ -25,8 +26,10 @@ class Refused(Exception):
 
 def say(words, text):
     """Writes a line with the time as a node's log has it. If it cannot be written it is left
-    out."""
-    now = time.time_ns() // 10**6
+    out, and so is one that the journal has had."""
+    text, now = SPARING.passed(text), time.time_ns() // 10**6
+    if text is None:
+        return
     try:
         line = f"{now // 1000}.{now % 1000:03d} supervise node {words.id} {text}"
         print(line, file=sys.stderr, flush=True)

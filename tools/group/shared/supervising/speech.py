@@ -4,6 +4,8 @@ import os
 import re
 import sys
 
+from ..journal import SPARING
+
 # A line of a node's log, and what it says there.
 NOTE = re.compile(r"\d+\.\d{3} node \d (.*)")
 
@@ -11,6 +13,13 @@ NOTE = re.compile(r"\d+\.\d{3} node \d (.*)")
 def is_log_asked():
     """Whether the environment asks for the lines of nodes' logs."""
     return os.environ.get("PGROUP_LOG") == "1"
+
+
+def spared(line, note):
+    """A line as it is to be written, or None where the journal has had it."""
+    text = note[1] if note else line.decode("utf-8", "replace")
+    passed = SPARING.passed(text)
+    return None if passed is None else line + passed[len(text) :].encode("ascii")
 
 
 class Speech:
@@ -53,7 +62,8 @@ class Speech:
     def take(self, lines):
         texts = [it.decode("utf-8", "replace") for it in lines]
         notes = [NOTE.fullmatch(it) for it in texts]
-        self.write([it for it, note in zip(lines, notes) if self.is_log_shown or not note])
+        self.write([spared(it, note) for it, note in zip(lines, notes)
+                    if self.is_log_shown or not note])
         self.last = texts[-1]
         for it in filter(None, notes):
             self.note(it[1])
@@ -61,7 +71,7 @@ class Speech:
     def write(self, lines):
         """What cannot be written is left out."""
         try:
-            sys.stderr.buffer.write(b"".join(it + b"\n" for it in lines))
+            sys.stderr.buffer.write(b"".join(it + b"\n" for it in lines if it is not None))
             sys.stderr.buffer.flush()
         except (OSError, ValueError, AttributeError):
             pass
