@@ -1,6 +1,12 @@
 # shellcheck shell=bash
 # What the benches of crates share. A bench sets `here` to its folder, sources this file, and has
-# `proved.rattle`, a Rattle program.
+# `proved.rattle`, a Rattle program. With the word --help a bench prints its first comment.
+case ${1-} in
+  --help | -h)
+    sed -n '2,/^set/s/^# \{0,1\}//p' "$0"
+    exit
+    ;;
+esac
 top=$here/../..
 # shellcheck source=tools/bash/sources.bash
 . "$top/tools/bash/sources.bash"

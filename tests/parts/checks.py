@@ -163,7 +163,11 @@ def run_checks(name, *checks, place=None):
 
 
 def has_no_words(name, more=""):
-    """Returns true if the script `name` was called without words, and else says how to call it."""
+    """Returns true if the script `name` was called without words, and else says how to call it.
+    With --help it prints what the script says of itself, and ends."""
+    if sys.argv[1:] in (["--help"], ["-h"]):
+        print(sys.modules["__main__"].__doc__.strip())
+        sys.exit(0)
     if len(sys.argv) > 1:
         print(f"usage: {name}{more}", file=sys.stderr)
     return len(sys.argv) == 1

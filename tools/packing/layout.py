@@ -82,7 +82,7 @@ def put_scripts(tree):
         tree.copy(path, f"{LIBRARY}/tools/{os.path.relpath(path, manual.TOOLS)}")
     for name in ("console", "tools/bash/provide.bash"):
         tree.copy(os.path.join(TOP, name), f"{LIBRARY}/{name}")
-    tree.link(f"{LIBRARY}/run", "bin/pgroup")
+    tree.link(f"{LIBRARY}/run", f"{LIBRARY}/pgroup")
     for name in SCRIPTS:
         where = "console" if name == "console" else f"tools/group/{name}"
         tree.link(f"bin/pgroup-{name}", f"{LIBRARY}/{where}")
@@ -111,7 +111,8 @@ def put_docs(tree):
 def put_all(folder, program):
     """Fills a folder as `usr`."""
     tree = Tree(folder)
-    tree.copy(program, "bin/pgroup")
+    tree.copy(program, f"{LIBRARY}/pgroup")
+    tree.copy(os.path.join(os.path.dirname(os.path.realpath(__file__)), "pgroup"), "bin/pgroup")
     put_scripts(tree)
     put_compilers(tree)
     put_docs(tree)

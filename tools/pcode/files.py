@@ -1,6 +1,7 @@
 """Files that are read and written whole."""
 
 import os
+import stat
 from contextlib import contextmanager
 
 from .faults import Fault
@@ -25,9 +26,16 @@ def removed_at_a_fault(name):
 
 
 def write_whole(name, data):
-    """Writes a file that is never there in part: beside it first, and then to its name."""
-    fresh = f"{name}.{os.getpid()}"
+    """Writes a file that is never there in part: beside it first, and then to its name. A symbolic
+    link stands for the file that it leads to. A device or a pipe is written to, and stays."""
+    if os.path.islink(name):
+        name = os.path.realpath(name)
     try:
+        if os.path.exists(name) and not stat.S_ISREG(os.stat(name).st_mode):
+            with open(name, "wb", buffering=0) as place:
+                place.write(data)
+            return
+        fresh = f"{name}.{os.getpid()}"
         with open(fresh, "xb") as file:
             with removed_at_a_fault(fresh):
                 file.write(data)

@@ -3,6 +3,7 @@ so. Other scripts refuse and tell faults in the same way."""
 
 import errno
 import os
+import pwd
 import subprocess
 import sys
 import time
@@ -44,6 +45,8 @@ def text_of_fault(fault):
 
 def refuse_lasting(fault):
     """Refuses a fault that stays until a person does something about it."""
+    if fault.errno == errno.EROFS and fault.filename:
+        raise Refused(f"the file system of {fault.filename} is read-only")
     if fault.errno in LASTING:
         raise Refused(text_of_fault(fault))
 
@@ -52,8 +55,33 @@ def check_folder(path, what):
     folder = os.path.dirname(os.path.abspath(path))
     if not os.path.isdir(folder):
         raise Refused(f"the folder of the {what} {path} is missing: is its disk mounted?")
+    if os.statvfs(folder).f_flag & os.ST_RDONLY:
+        raise Refused(f"the file system of {folder}, the folder of the {what}, is read-only")
     if not os.access(folder, os.W_OK | os.X_OK):
-        raise Refused(f"nothing can be written in {folder}, the folder of the {what}")
+        owner = name_of(os.stat(folder).st_uid)
+        raise Refused(f"this user may write nothing in {folder}, the folder of the {what}: it is "
+                      f"for {owner}, so begin the command with sudo -u {owner}")
+
+
+def name_of(user):
+    """The name of a user, or its number where it has none."""
+    try:
+        return pwd.getpwuid(user).pw_name
+    except KeyError:
+        return f"#{user}"
+
+
+def check_apart(words):
+    """The console is a file of its own."""
+    place = os.path.realpath(words.console)
+    record = os.path.realpath(words.record)
+    others = [(record, "record"), (os.path.realpath(words.file), "code file"),
+              (os.path.realpath(words.program), "program pgroup")]
+    others += [(record + end, f"file {record}{end}") for end in (".new", ".lock", ".seen")]
+    for other, what in others:
+        is_same = os.path.exists(place) and os.path.exists(other) and os.path.samefile(place, other)
+        if place == other or is_same:
+            raise Refused(f"--console {words.console} is the {what}, which would get the output")
 
 
 def check_session(words):
@@ -100,18 +128,30 @@ def check_new(words):
         raise Refused(f"--new, and {words.console} has output: of another session?")
 
 
+def text_of_missing(words):
+    return (
+        f"{words.record} is missing. Is its disk mounted? If node {words.id} ever ran in session "
+        f"{words.session}, the record is lost: never say --new then, but leave this node off, go "
+        "on with the others, and renew. --new is for a node that never ran in this session"
+    )
+
+
 def promised_of(words, is_new):
     """What the node's record has promised: nothing where it is new, and there is none."""
     try:
         record = read_record(words.record)
     except FileNotFoundError:
         if not is_new:
-            raise Refused(f"{words.record} is missing: is it lost? --new is for a new node")
+            raise Refused(text_of_missing(words))
         return None
     except Damaged as fault:
         raise Refused(f"{words.record} is damaged: {fault}")
     if (record.node, record.size, record.session) != (words.id, words.size, words.session):
-        raise Refused(f"{words.record} is of another node, size or session")
+        raise Refused(
+            f"{words.record} is of another node, size or session: it is of node {record.node} of "
+            f"{record.size} in session {record.session}, and the words are of node {words.id} of "
+            f"{words.size} in session {words.session}"
+        )
     return record.promised
 
 
@@ -122,6 +162,7 @@ def check_files(words):
         check_session(words)
         check_folder(words.record, "record")
         check_folder(words.console, "console")
+        check_apart(words)
         if words.new:
             check_new(words)
         promised_of(words, words.new)

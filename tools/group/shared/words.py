@@ -30,11 +30,33 @@ def text_of_address(address):
     return f"{address[0]}:{address[1]}"
 
 
+class Parser(argparse.ArgumentParser):
+    """A parser whose faults are sentences, and whose help may be cut short."""
+
+    def error(self, message):
+        super().error(re.sub(r"\[Errno \d+\] ", "", message))
+
+    def print_help(self, file=None):
+        try:
+            # What argparse writes by itself may fail unseen.
+            print(self.format_help(), end="", file=file, flush=True)
+        except BrokenPipeError:
+            raise
+        except OSError as fault:
+            drop_output()
+            self.exit(1, f"{self.prog}: standard output: {fault.strerror}\n")
+
+
+def drop_output():
+    """Standard output gets nothing more: Python would try again at the end."""
+    os.dup2(os.open(os.devnull, os.O_WRONLY | os.O_CLOEXEC), 1)
+
+
 def parser_of(text, **more):
     """A parser whose help is this text. Wrong words end the script with status 2."""
     about, _, rest = text.partition("\n\n")
     form = argparse.RawDescriptionHelpFormatter
-    return argparse.ArgumentParser(
+    return Parser(
         description=about, epilog=rest, formatter_class=form, allow_abbrev=False, **more
     )
 
@@ -69,7 +91,7 @@ def put_out(text, path=None):
     except OSError as fault:
         fault.filename = path or "standard output"
         if not path:
-            os.dup2(os.open(os.devnull, os.O_WRONLY | os.O_CLOEXEC), 1)
+            drop_output()
         raise
 
 

@@ -42,6 +42,7 @@ class Scene:
         self.sent_at, self.heard, self.later = {}, set(), set()
         self.moments = []  # of each event its column, its line, and its time, if that is known
         self.base = self.width = 1
+        self.seen = 1  # the last line
 
     def is_shown(self, line):
         return self.first <= line <= self.last
@@ -66,6 +67,7 @@ class Scene:
 
     def add(self, line, event, happened, time=None):
         """An event of a script and what it did. Events before the picture only change lanes."""
+        self.seen = line
         if not self.is_shown(line):
             self.pass_by(line, event, happened)
             return

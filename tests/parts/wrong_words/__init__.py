@@ -1,0 +1,1 @@
+"""What tests/wrong_words alone uses."""
