@@ -18,8 +18,9 @@ class Unfit(Exception):
     """Why these records do not make a new session."""
 
 
-def check_group(records):
-    """Refuses records that are not of a majority of one group. They are given by their paths."""
+def check_group(records, is_minority=False):
+    """Refuses records that are not of a majority of one group, or not of a minority where that is
+    said. They are given by their paths."""
     paths = list(records)
     first = records[paths[0]]
     nodes = {}
@@ -33,9 +34,12 @@ def check_group(records):
         if it.node in nodes:
             raise Unfit(f"{nodes[it.node]} and {path} are both of node {it.node}")
         nodes[it.node] = path
-    if 2 * len(nodes) <= first.size:
-        few = f"{len(nodes)} of {first.size} records are no majority"
-        raise Unfit(f"{few}: what was chosen may be in the others")
+    count = f"{len(nodes)} of {first.size} records are"
+    if is_minority and 2 * len(nodes) > first.size:
+        raise Unfit(f"{count} a majority: leave --from-minority out")
+    if not is_minority and 2 * len(nodes) <= first.size:
+        raise Unfit(f"{count} no majority: what was chosen may be in the others. If those are lost "
+                    "for good, --from-minority goes on without them")
 
 
 def value_at(records, place):
@@ -53,9 +57,10 @@ def value_at(records, place):
     return [value]
 
 
-def typed_in(records):
-    """What a majority of a group's records says was typed."""
-    check_group(records)
+def typed_in(records, is_minority=False):
+    """What a majority of a group's records says was typed; or what a minority does, which may lack
+    what was chosen, and have what was not."""
+    check_group(records, is_minority)
     keys, count, place = {}, 0, 0
     while place < PLACES:
         found = value_at(records, place)
