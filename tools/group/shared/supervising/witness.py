@@ -84,8 +84,10 @@ class Behind:
 
         if not self.is_busy():
             with contextlib.suppress(RuntimeError):  # No thread can be had now.
-                self.thread = threading.Thread(target=run, daemon=True)
-                self.thread.start()
+                thread = threading.Thread(target=run, daemon=True)
+                thread.start()
+                # A signal may have ended the start: what was not started is not waited for.
+                self.thread = thread
 
 
 class Progress:
