@@ -6,7 +6,6 @@ import os
 import re
 import signal
 import socket
-import sys
 
 
 def address_of(text):
