@@ -5,7 +5,6 @@ import sys
 
 from pcode.faults import Fault
 from pcode.files import drop_output, write_whole
-
 from volumes.text import decoded, is_text_file
 
 from . import report
@@ -80,7 +79,9 @@ def number_of(text):
 
 def words_parser():
     import argparse
-    parser = argparse.ArgumentParser(
+
+    from pcode.words import Parser
+    parser = Parser(
         prog="compile", description=ABOUT, epilog=EXAMPLES, allow_abbrev=False,
         formatter_class=argparse.RawDescriptionHelpFormatter)
     parser.add_argument("file", metavar="FILE.pas", nargs="?", help="the text of the program")
@@ -167,10 +168,14 @@ def tell(fault, file):
 def main(arguments):
     """Runs the command, and answers its status."""
     words = words_of(arguments)
+    if sys.stdout is None and (words.asm or words.list or words.where or words.library):
+        print("standard output: it is closed", file=sys.stderr)
+        return 1
     sys.setrecursionlimit(RECURSION)
     try:
         make(words)
-        sys.stdout.flush()
+        if sys.stdout is not None:
+            sys.stdout.flush()
         return 0
     except Refused as refused:
         for fault in refused.faults:

@@ -8,6 +8,7 @@ import sys
 
 from pcode.faults import Fault
 from pcode.files import drop_output, read_whole, write_whole
+from pcode.words import Parser
 
 from . import directory
 from .image import DISK, in_sectors, volume_of
@@ -43,7 +44,7 @@ def count_of(least, most):
 
 
 def words_parser():
-    parser = argparse.ArgumentParser(
+    parser = Parser(
         prog="volume", description=ABOUT, epilog=EXAMPLES, allow_abbrev=False,
         formatter_class=argparse.RawDescriptionHelpFormatter)
     parser.add_argument("image", metavar="IMAGE", help="the image of a disk")
