@@ -42,9 +42,16 @@ class Network:
         system("ip", "-n", self.name(host), *words)
 
     def heal(self):
-        for one, two in itertools.permutations(self.hosts, 2):
-            way = [f"{self.address(two)}/32", "dev", f"to{two}", "src", self.address(one)]
-            self.ip_at(one, "route", "replace", *way)
+        for host in self.hosts:
+            self.heal_host(host)
+
+    def heal_host(self, host):
+        """All gets to this host again, and from it."""
+        for other in self.hosts:
+            if other != host:
+                for one, two in ((host, other), (other, host)):
+                    way = [f"{self.address(two)}/32", "dev", f"to{two}", "src", self.address(one)]
+                    self.ip_at(one, "route", "replace", *way)
 
     def cut(self, *pairs):
         """Nothing gets from the first to the second of each pair."""

@@ -16,30 +16,31 @@ from .program import Broken
 class Screen:
     """A command in a tmux of its own, and what its screen shows."""
 
-    def __init__(self, folder, name, *command):
+    def __init__(self, folder, name, *command, columns=100, lines=30, env=None):
         self.socket = os.path.join(folder, f"tmux.{name}")
         self.status = os.path.join(folder, f"status.{name}")
         words = " ".join(map(shlex.quote, command))
         shell = f"{words}; echo $? > '{self.status}'"
-        self.tmux("-f", "/dev/null", "new-session", "-d", "-x", "100", "-y", "30", shell)
+        self.env = {**os.environ, **(env or {}), "TERM": "xterm", "LC_ALL": "C.UTF-8"}
+        size = ["-x", str(columns), "-y", str(lines)]
+        self.tmux("-f", "/dev/null", "new-session", "-d", *size, shell)
 
     def tmux(self, *words):
         command = ["tmux", "-S", self.socket, *words]
-        env = {**os.environ, "TERM": "xterm", "LC_ALL": "C.UTF-8"}
-        return subprocess.run(command, check=False, env=env, capture_output=True)
+        return subprocess.run(command, check=False, env=self.env, capture_output=True)
 
-    def shown(self):
-        return self.tmux("capture-pane", "-p").stdout.decode()
+    def shown(self, pane=0):
+        return self.tmux("capture-pane", "-p", "-t", f":.{pane}").stdout.decode()
 
-    def await_shown(self, *patterns):
+    def await_shown(self, *patterns, pane=0):
         """Waits until all of these are on the screen at once."""
         def is_shown():
-            return all(re.search(it, self.shown(), re.M) for it in patterns)
+            return all(re.search(it, self.shown(pane), re.M) for it in patterns)
 
         try:
             await_that(is_shown, f"the screen shows {patterns}")
         except Broken as broken:
-            raise Broken(f"{broken}, and has\n{self.shown()}")
+            raise Broken(f"{broken}, and has\n{self.shown(pane)}")
 
     def process(self):
         """The command's process."""

@@ -37,10 +37,10 @@ def free_addresses(count):
     return found
 
 
-def socket_at(port):
-    """Returns the words of the line of /proc/net/udp for the socket with this port that is
-    connected to nobody, or None if there is no such socket."""
-    with open("/proc/net/udp", encoding="ascii") as table:
+def socket_at(port, path="/proc/net/udp"):
+    """Returns the words of the line of this table for the socket with this port that is connected
+    to nobody, or None if there is no such socket."""
+    with open(path, encoding="ascii") as table:
         for line in table:
             words = line.split()
             if words[1].endswith(f":{port:04X}") and words[2] == "00000000:0000":
@@ -48,16 +48,16 @@ def socket_at(port):
     return None
 
 
-def dropped_at(port):
+def dropped_at(port, path="/proc/net/udp"):
     """Returns how many datagrams the socket with this port has dropped, or None if there is
-    none."""
-    words = socket_at(port)
+    none. The table is that of this network namespace, or of another one."""
+    words = socket_at(port, path)
     return int(words[-1]) if words else None
 
 
-def is_empty_at(port):
+def is_empty_at(port, path="/proc/net/udp"):
     """Returns true if there is a socket with this port and no datagram waits in it."""
-    words = socket_at(port)
+    words = socket_at(port, path)
     return words is not None and words[4].endswith(":00000000")
 
 

@@ -20,13 +20,14 @@ def lines_of_log(node):
 
 def lines_of_node(node, leader, room):
     """The lines of a node, with so many of its console and its log."""
-    said, shown = lines_of_log(node), node.end_of_console()
+    said = lines_of_log(node)
     if node.later:
         said.append(f"    ({text_of_old(node.later)})")
+    shown = node.end_of_console(max(1, room - len(said)))
     if shown is None:
         shown = ["    (its console is in no file that is known here; say --consoles)"]
     else:
-        shown = [f"    | {it}" for it in shown[-max(1, room - len(said)) :]]
+        shown = [f"    | {it}" for it in shown]
     return [line_of(node, leader), *said, *shown, ""]
 
 

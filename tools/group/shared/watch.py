@@ -5,6 +5,7 @@ import os
 import stat
 
 from .codes import with_sentence
+from .consoles import View
 from .ends import Log
 from .nodes import stat_of
 from .record import (
@@ -13,8 +14,6 @@ from .record import (
 from .seen import Seen, point_of, point_of_head
 from .words import text_of_address
 
-# How many bytes of a console's end are read.
-END = 8192
 # The greatest round of a ballot.
 LAST_ROUND = 4294967295
 
@@ -85,10 +84,16 @@ def has_keys_at(words, address):
     return text_of_address(address) in said
 
 
-def record_word(words):
-    """The word RECORD of a node, the fifth that is no option and no value of one, or None."""
+def plain_words(words):
+    """The words of a node that are no options and no values of one: FILE, ID, SIZE, SESSION,
+    RECORD, TURNS and the addresses."""
     values = {at + 1 for at, word in enumerate(words) if word in ("--seen", "--keys")}
-    plain = [it for at, it in enumerate(words) if at not in values and not it.startswith("--")]
+    return [it for at, it in enumerate(words) if at not in values and not it.startswith("--")]
+
+
+def record_word(words):
+    """The word RECORD of a node, or None."""
+    plain = plain_words(words)
     return plain[4] if len(plain) > 4 else None
 
 
@@ -131,10 +136,6 @@ def file_of(pid, descriptor):
         return None
 
 
-def shown_as(character):
-    return character if " " <= character <= "~" else "."
-
-
 class Watched:
     """A node: what was seen of it when `look` was called last."""
 
@@ -142,7 +143,7 @@ class Watched:
         self.path, self.given = path, console
         self.console = console
         self.is_log_given, self.log = log is not None, log and Log(log)
-        self.head = Whole(path)
+        self.head, self.view = Whole(path), View()
         self.record, self.fault, self.pid, self.state = None, None, None, None
         self.end, self.log_fault = None, None
         # By which run it was seen that the record is older than it was, or None.
@@ -195,20 +196,16 @@ class Watched:
         is_own = it and it.promised and it.promised.node == it.node
         return it.promised if is_own and it.promised != self.head.before and self.is_up() else None
 
-    def end_of_console(self):
-        """The lines at the end of the console, or None where no file is known to have it."""
+    def end_of_console(self, room):
+        """At most so many lines of the console's end, as a terminal shows it, or None where no file
+        is known to have it."""
         if self.console is None:
             return None
         try:
-            with open(self.console, "rb") as file:
-                size = file.seek(0, os.SEEK_END)
-                file.seek(max(0, size - END))
-                data = file.read(END)
+            self.view.look(self.console)
         except OSError as fault:
             return [f"({self.console}: {fault.strerror})"]
-        text = data.replace(b"\r\n", b"\n").replace(b"\r", b"\n").decode("latin-1")
-        lines = ["".join(map(shown_as, line)) for line in text.split("\n")]
-        return lines[:-1] if lines[-1] == "" else lines
+        return self.view.lines(room)
 
 
 class Group:

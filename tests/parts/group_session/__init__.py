@@ -1,0 +1,1 @@
+"""What tests/group_session alone uses."""

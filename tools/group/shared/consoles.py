@@ -1,0 +1,42 @@
+"""The end of a console's file as a terminal shows it, also of a program that moves the cursor."""
+
+import os
+
+from .terminal import Terminal
+
+# How many bytes before the end of a file it begins with, and how many it takes at once.
+BEGIN, PIECE = 1 << 16, 1 << 18
+
+
+def shown_as(character):
+    return character if " " <= character <= "~" else "."
+
+
+class View:
+    """A console that is followed as it grows. Where it is another file, or was cut, it begins
+    anew."""
+
+    def __init__(self):
+        self.terminal, self.of, self.at = None, None, 0
+
+    def look(self, path):
+        """Reads what has come. OSError where that cannot be done."""
+        with open(path, "rb") as file:
+            size, inode = file.seek(0, os.SEEK_END), os.fstat(file.fileno()).st_ino
+            if self.of != (path, inode) or size < self.at:
+                self.of, self.at = (path, inode), max(0, size - BEGIN)
+                self.terminal = Terminal(is_pair=True)
+            file.seek(self.at)
+            for data in iter(lambda: file.read(PIECE), b""):
+                self.at += len(data)
+                self.terminal.write(data.decode("latin-1"))
+
+    def lines(self, room):
+        """At most so many lines: the last ones, or those from where the cursor is."""
+        it = self.terminal
+        lines = [text.rstrip() for text, _ in it.history[-room:] + it.lines]
+        above = min(room, len(it.history))
+        while lines and not lines[-1] and len(lines) > above:
+            lines.pop()
+        begin = min(max(0, len(lines) - room), above + it.y)
+        return ["".join(map(shown_as, line)) for line in lines[begin : begin + room]]

@@ -1,0 +1,124 @@
+"""A session on a person's terminal: the console as a terminal of 80 by 24 shows it, and what there
+is to say below it, or over its last line where there is no room. The console's own bytes never
+reach the person's terminal, which so answers none of them."""
+
+import os
+import textwrap
+import time
+
+from ..terminal import BOLD, INVERSE, UNDER
+
+# How long a sentence is shown over the last line, in seconds.
+FRESH = 6.0
+STYLES = ((BOLD, "1"), (UNDER, "4"), (INVERSE, "7"))
+
+
+def style_of(look):
+    """The sequence for how a character looks."""
+    bits = ord(look) - 32
+    numbers = "".join(f";{number}" for bit, number in STYLES if bits & bit)
+    return f"\x1b[0{numbers}m"
+
+
+def rendered(text, looks, width):
+    """A line of the screen for a terminal of this width."""
+    text = text[:width]
+    looks = looks[: len(text)]
+    size = max(len(text.rstrip()), len(looks.rstrip()))
+    out, look = [], " "
+    for sign, its in zip(text[:size], looks):
+        if its != look:
+            out.append(style_of(its))
+            look = its
+        out.append(sign)
+    if look != " ":
+        out.append(style_of(" "))
+    return "".join(out) + ("\x1b[K" if size < width else "")
+
+
+class Window:
+    def __init__(self, terminal, is_utf8):
+        self.terminal, self.name = terminal, "utf-8" if is_utf8 else "ascii"
+        self.size, self.rows, self.left = None, [], terminal.left
+        self.sentences, self.said_at, self.status = [], -FRESH, ""
+        self.at = ""
+
+    def write(self, text):
+        rest = text.encode(self.name, "replace")
+        while rest:
+            rest = rest[os.write(1, rest) :]
+
+    def say(self, text):
+        self.sentences.append(text)
+        self.said_at = time.monotonic()
+
+    def has_room(self):
+        """Whether there are lines below the console."""
+        return self.size is not None and self.size[1] > self.terminal.rows
+
+    def below(self, count, width):
+        """What is to be said in so many lines: first the status, and below it the last
+        sentences."""
+        lines = [line for it in self.sentences[-count:] for line in textwrap.wrap(it, width - 1)]
+        lines = lines[-(count - 1) :] if count > 1 else []
+        return [(self.status, "\x1b[0;7m"), *((it, "\x1b[0m") for it in lines)]
+
+    def over(self, width):
+        """What is to be said over the last line, or None: a new sentence, or what waits."""
+        is_fresh = time.monotonic() - self.said_at < FRESH
+        text = self.sentences[-1] if is_fresh and self.sentences else self.status
+        return (text[: width - 1], "\x1b[0;7m") if text else None
+
+    def wanted(self, height, width):
+        """The lines that are to be seen, and the row of the first one of the console."""
+        it, rows = self.terminal, self.terminal.rows
+        lines = [rendered(*line, width) for line in it.lines]
+        if height > rows:
+            said = self.below(height - rows, width)
+            first = 0
+        else:
+            over = self.over(width)
+            said = [over] if over else []
+            # The line with the cursor is to be seen.
+            room = height - len(said)
+            first = min(max(0, it.y - room + 1), rows - room)
+            lines = lines[first : first + room]
+        for text, style in said:
+            lines.append(f"{style}{text[: width - 1]}\x1b[0m\x1b[K" if text else "\x1b[K")
+        return lines + ["\x1b[K"] * (height - len(lines)), first
+
+    def draw(self):
+        """Draws what has changed. Lines that have left the console go above the window, so that the
+        person's terminal keeps them."""
+        size = os.get_terminal_size(1)
+        # A terminal that does not say its size has the usual one.
+        width, height = max(2, size.columns or 80), max(2, size.lines or 24)
+        out, it = [], self.terminal
+        if self.size is None:
+            out.append("\n" * height)
+        if self.size != (width, height):
+            self.size, self.rows = (width, height), []
+        gone = it.history[-(it.left - self.left) :] if it.left > self.left else []
+        self.left = it.left
+        if gone and height > it.rows:
+            self.rows = []
+            for line in gone:
+                out.append(f"\x1b[H{rendered(*line, width)}\x1b[{height};1H\n")
+        lines, first = self.wanted(height, width)
+        for row, line in enumerate(lines):
+            if row >= len(self.rows) or self.rows[row] != line:
+                out.append(f"\x1b[{row + 1};1H{line}")
+        self.rows = lines
+        if out or self.cursor(first) != self.at:
+            self.at = self.cursor(first)
+            self.write("\x1b[?25l" + "".join(out) + self.at)
+
+    def cursor(self, first):
+        it = self.terminal
+        shown = "" if it.is_hidden else "\x1b[?25h"
+        return f"\x1b[{it.y - first + 1};{it.x + 1}H{shown}"
+
+    def end(self):
+        """Leaves the window as it is, and goes below it."""
+        if self.size:
+            self.write(f"\x1b[0m\x1b[?25h\x1b[{self.size[1]};1H\x1b[K")
