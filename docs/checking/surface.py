@@ -17,6 +17,7 @@ HEAD = """\
 # file.
 
 """
+READER = "docs/checking/surface.py"
 DECIDE = "or write the decision into docs/DECISIONS.md and run docs/check --write-surface"
 # The modules whose functions are listed by name alone.
 LAWS = ("laws::", "instruction_laws::")
@@ -144,6 +145,9 @@ class Crate:
         for name in MODULE.findall(self.texts[modules]):
             self.read((*modules, name))
 
+    def fault(self, what):
+        fault(f"crates/{self.name}: {what}: teach it this form")
+
     def lines(self):
         return {f"{self.name}: {it}" for it in self.exported((), "")}
 
@@ -172,7 +176,7 @@ class Crate:
             for further, given in paths_of(text[it.start(2) : text.index(";", it.start())]):
                 lines += self.used(home, further, shown) if given == name else ()
         if not lines:
-            fault(f"crates/{self.name}: exports {path}, which {__name__} does not find")
+            self.fault(f"exports {path}, which {READER} does not find")
         yield from lines
 
     def item(self, modules, it, shown):
@@ -181,7 +185,7 @@ class Crate:
         if kind == "mod":
             yield from self.exported((*modules, it[2]), f"{shown}::")
         elif kind not in ENDS:
-            fault(f"crates/{self.name}: {__name__} does not know what pub {kind} {it[2]} is")
+            self.fault(f"has pub {kind} {it[2]}, which {READER} does not know")
         elif kind == "fn" and shown.startswith(LAWS):
             yield shown
         elif kind in ("struct", "enum"):
