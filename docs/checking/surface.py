@@ -29,6 +29,7 @@ OF_TESTS = re.compile(r"#\[cfg\(test\)\]\s*(?:#\[[^\n]*\]\s*)*(?:pub )?(?=\w)")
 
 MODULE = re.compile(r"^(?:pub(?:\(\w+\))? )?mod (\w+);", re.M)
 # A public item of a module, and one of an `impl` or a trait, as rt fmt indents them.
+PUBLIC = re.compile(r"^pub (?!\().*", re.M)
 ITEM = re.compile(r"^pub (?:(?:const|unsafe) (?=fn ))?(\w+) (\w+)", re.M)
 MEMBER = re.compile(r"^    (pub )?(?:(?:const|unsafe) (?=fn ))?(const|fn|type) (\w+)", re.M)
 # Where the part of an item ends that is listed.
@@ -146,34 +147,48 @@ class Crate:
             self.read((*modules, name))
 
     def fault(self, what):
-        fault(f"crates/{self.name}: {what}: teach it this form")
+        text = f"crates/{self.name}: {what}: teach it this form"
+        if text not in tree.FAULTS:
+            fault(text)
 
     def lines(self):
         return {f"{self.name}: {it}" for it in self.exported((), "")}
 
+    def items(self, modules):
+        """The public items of a module, as `ITEM` finds them, each with the paths of a `use`."""
+        text = self.texts[modules]
+        for public in PUBLIC.finditer(text):
+            it = ITEM.match(text, public.start())
+            if not it:
+                self.fault(f"has `{public[0]}`, which {READER} does not know")
+            elif it[1] == "use":
+                yield it, list(paths_of(text[it.start(2) : text.index(";", it.start())]))
+            else:
+                yield it, []
+
     def exported(self, modules, before):
         """The lines of what a module exports; `before` leads to it."""
-        text = self.texts[modules]
-        for it in ITEM.finditer(text):
+        for it, paths in self.items(modules):
             if it[1] != "use":
                 yield from self.item(modules, it, before + it[2])
-                continue
-            for path, name in paths_of(text[it.start(2) : text.index(";", it.start())]):
+            for path, name in paths:
                 yield from self.used(modules, path, before + name)
 
     def used(self, modules, path, shown):
         """The lines of what a module exports from another one, or from another crate."""
         *way, name = path.split("::")
-        home = tuple(way[1:]) if way[:1] == ["crate"] else (*modules, *way)
-        if home not in self.texts:
+        home = modules
+        for it in way:
+            ways = {"crate": (), "self": home, "super": home[:-1]}
+            home = ways.get(it, (*home, it))
+        if home not in self.texts and way[0] in tree.all_crates():
             yield f"{shown} = {path}"
             return
-        text, lines = self.texts[home], []
-        for it in ITEM.finditer(text):
-            if it[1] != "use":
-                lines += self.item(home, it, shown) if it[2] == name else ()
-                continue
-            for further, given in paths_of(text[it.start(2) : text.index(";", it.start())]):
+        lines = []
+        for it, paths in self.items(home) if home in self.texts else ():
+            if it[1] != "use" and it[2] == name:
+                lines += self.item(home, it, shown)
+            for further, given in paths:
                 lines += self.used(home, further, shown) if given == name else ()
         if not lines:
             self.fault(f"exports {path}, which {READER} does not find")
@@ -182,10 +197,10 @@ class Crate:
     def item(self, modules, it, shown):
         """The lines of an item of a module that `ITEM` has found."""
         kind, text = it[1], self.texts[modules]
-        if kind == "mod":
+        if kind == "mod" and (*modules, it[2]) in self.texts:
             yield from self.exported((*modules, it[2]), f"{shown}::")
         elif kind not in ENDS:
-            self.fault(f"has pub {kind} {it[2]}, which {READER} does not know")
+            self.fault(f"has `pub {kind} {it[2]}`, which {READER} does not know")
         elif kind == "fn" and shown.startswith(LAWS):
             yield shown
         elif kind in ("struct", "enum"):
@@ -201,12 +216,14 @@ class Crate:
 
 
 def name_of(line):
-    """The name of a line, with its crate and without what it is."""
+    """The name of a line, with its crate and without what it is; of a line that is none, as a
+    merge leaves it, the line itself."""
     crate, _, item = line.partition(": ")
     item, old = item.replace("->", ""), None
     while item != old:
         item, old = re.sub(r"<[^<>]*>", "", item), item
-    return f"{crate}: {NAME.match(item)[1].rstrip(':')}"
+    found = NAME.match(item)
+    return f"{crate}: {found[1].rstrip(':')}" if found else line
 
 
 def check_lines(listed, found):

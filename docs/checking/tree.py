@@ -109,7 +109,8 @@ def owners_in(text):
     trait has its functions."""
     found = []
     for it in re.finditer(r"^(?:pub )?(impl|trait)\b([^{;]*)\{", text, re.M):
-        head = re.sub(r"<[^<>]*>", "", re.sub(r"<[^<>]*(?:<[^<>]*>[^<>]*)*>", "", it[2]))
+        head = it[2].replace("->", "")
+        head = re.sub(r"<[^<>]*>", "", re.sub(r"<[^<>]*(?:<[^<>]*>[^<>]*)*>", "", head))
         name = re.findall(r"\w+", head.split(" for ")[-1].split(":")[0].split(" where ")[0])
         kind = "trait" if " for " in head else it[1]
         found.append((it.start(), closing(text, it.end() - 1), name[0] if name else "", kind))

@@ -25,7 +25,8 @@ pub mod limits;
 #[cfg(test)]
 mod trials;
 
-pub use boxes::{Crate, Fault, Keeper, Nothing, Pair};
+pub use boxes::{Crate, Fault, Keeper, Pair};
+pub use hidden::Nothing;
 pub use limits::MOST;
 
 /// Returns the sum.
@@ -64,7 +65,7 @@ impl<'a, S> Model for Crate<'a, S> {
     ghost invariant = { λ c. c.width < 3 };
 }
 
-impl<'a, S: Store + Drop> Crate<'a, S> {
+impl<'a, S: Drop + Fn(u8) -> u8> Crate<'a, S> {
     ghost use Rattle.one.specs.Crates.{crate_of};
 
     /// Opens it.
@@ -130,7 +131,7 @@ SOURCES = {
     "crates.txt": "one:\ntwo: one\n",
     "crates/one/src/lib.rt": LIB,
     "crates/one/src/boxes.rt": BOXES,
-    "crates/one/src/hidden.rt": "pub fn hidden() {}\n",
+    "crates/one/src/hidden.rt": "pub use crate::boxes::Nothing;\n\npub fn hidden() {}\n",
     "crates/one/src/trials.rt": "impl Fault {\n    pub fn tried(&self) {}\n}\n",
     "crates/one/src/limits.rt": 'pub const MOST: u8 = 3;\npub const NAME: &str = "one; two";\n',
     "crates/one/src/laws.rt": "mod first;\n\npub use first::{goes, stays};\n\npub fn ends()\n"
@@ -144,7 +145,7 @@ one: struct Crate<'a, S> { .. }
 one: Crate.names: HashMap<u8, &'a [u8; 3]>
 one: Crate.width: u8
 one: Crate<'_, u8>::of_bytes() -> u8
-one: Crate<'a, S: Store + Drop>::open(self, lid: Option<(u8, u8)>) -> Self
+one: Crate<'a, S: Drop + Fn(u8) -> u8>::open(self, lid: Option<(u8, u8)>) -> Self
 one: enum Fault
 one: Fault::Broken(io::Error)
 one: Fault::Gone
@@ -188,7 +189,7 @@ def changed(was, now):
 
 FAULT_LINES = ("enum Fault", "Fault::Broken(io::Error)", "Fault::Gone",
                "Fault::Wide { most: u8, by: u8 }")
-OPEN = "Crate<'a, S: Store + Drop>::open(self, lid: Option<(u8, u8)>) -> Self"
+OPEN = "Crate<'a, S: Drop + Fn(u8) -> u8>::open(self, lid: Option<(u8, u8)>) -> Self"
 COUNT = "Keeper::count(&self) -> usize"
 # What is changed, in which file, from what, to what, and what is said of it.
 CHANGES = [
@@ -215,8 +216,8 @@ CHANGES = [
     ("a renamed method", BOXES_OF_ONE, "pub fn open", "pub fn close",
      new(OPEN.replace("open", "close")) + gone(OPEN)),
     ("a method that becomes private", BOXES_OF_ONE, "pub fn open", "fn open", gone(OPEN)),
-    ("a bound of a type's methods", BOXES_OF_ONE, r"Store \+ Drop", "Store",
-     changed(OPEN, OPEN.replace(" + Drop", ""))),
+    ("a bound of a type's methods", BOXES_OF_ONE, r"Drop \+ Fn", "Fn",
+     changed(OPEN, OPEN.replace("Drop + ", ""))),
     ("a method of a trait that goes", BOXES_OF_ONE, "fn count", "ghost count", gone(COUNT)),
     ("a trait above a trait", BOXES_OF_ONE, "Keeper<T>: Wire", "Keeper<T>: Pipe",
      changed("trait Keeper<T>: Wire", "trait Keeper<T>: Pipe")),
@@ -225,8 +226,15 @@ CHANGES = [
      + changed("const limits::MOST: u8", "const limits::MOST: u16")),
     ("a law that goes", "crates/one/src/laws.rt", "goes, ", "", gone("laws::goes")),
     ("a law that comes", "crates/one/src/laws.rt", "goes, ", "goes, unsaid, ", new("laws::unsaid")),
-    ("an export that nothing stands for", LIB_OF_ONE, "Nothing, ", "Nothing, Nobody, ",
+    ("an export that nothing stands for", LIB_OF_ONE, "Keeper, ", "Keeper, Nobody, ",
      ["crates/one: exports boxes::Nobody, which docs/checking/surface.py does not find: teach it "
+      "this form"]),
+    ("an export of what is no crate here", LIB_OF_ONE, "pub use limits", "pub use borders",
+     gone("const MOST: u8")
+     + ["crates/one: exports borders::MOST, which docs/checking/surface.py does not find: teach it "
+        "this form"]),
+    ("a form that is not known", LIB_OF_ONE, "pub mod laws", 'pub extern "C" {}\npub mod laws',
+     ['crates/one: has `pub extern "" {}`, which docs/checking/surface.py does not know: teach it '
       "this form"]),
 ]
 # Changes that no caller sees.
@@ -243,6 +251,7 @@ INSIDE = [
     ("a public function of a private module", "crates/one/src/hidden.rt", "hidden", "seen"),
     ("a public method of a module of tests", "crates/one/src/trials.rt", "tried", "left"),
     ("a type that is not exported", BOXES_OF_ONE, "Unseen", "Other"),
+    ("a path from the module itself", LIB_OF_ONE, "limits::MOST;", "self::limits::MOST;"),
     ("a constant's value", "crates/one/src/limits.rt", "= 3", "= 4"),
 ]
 
@@ -295,6 +304,9 @@ class OfCrates(Checks):
         self.says("no head", [disorder])
         self.write(surface.PATH, surface.HEAD + EXPORTED.replace("::goes\n", "::goes(u8)\n"))
         self.says("a line that a person has changed", changed("laws::goes(u8)", "laws::goes"))
+        self.write(surface.PATH, f"{surface.HEAD}<<<<<<< ours\n{EXPORTED}")
+        why = "is in docs/surface.txt and no longer public: put the name back"
+        self.says("a line that a merge has left", [f"<<<<<<< ours {why}, {DECIDE}"])
         os.remove(os.path.join(self.room, surface.PATH))
         missing = "is missing: get it back from git, or run docs/check --write-surface"
         self.says("no list", [f"docs/surface.txt: {missing}"])
