@@ -9,7 +9,7 @@ import sys
 from ..checks import Checks
 from ..files import bytes_of
 from ..program import TOP, ran
-from .clones import append, replace
+from .clones import SECONDS, append, replace
 
 sys.path.insert(0, os.path.join(TOP, "docs"))
 from checking import surface, tree
@@ -327,13 +327,13 @@ class OfRepository(Checks):
                 if re.search(rf"\b{name}\b", bytes_of(path).decode()):
                     replace(path, rf"\b{name}\b", f"{name}_renamed")
         check = [os.path.join(copy, "docs", "check")]
-        done = ran([*check, "--write"])
+        done = ran([*check, "--write"], seconds=SECONDS)
         with self.check("docs/check --write refuses a rename, and leaves the list as it is"):
             wanted = f"docs/check: {line} is in docs/surface.txt and no longer public: "
             self.assertIn(wanted, done.stderr.decode())
             self.assertIn(f"docs/check: {renamed} is public and not in ", done.stderr.decode())
             self.assertEqual((done.returncode, bytes_of(there).decode()), (1, before))
-        done = ran([*check, "--write-surface"])
+        done = ran([*check, "--write-surface"], seconds=SECONDS)
         with self.check("docs/check --write-surface writes the list"):
             written = "docs: docs/surface.txt is written. Lines that are new: 1. "
             self.assertIn(f"{written}Lines that are gone: 1.\n", done.stdout.decode())
