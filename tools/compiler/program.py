@@ -72,12 +72,12 @@ def parsed_unit(text, file, faults):
     return parsed(text, file, faults, Parser.unit)
 
 
-def library_of(checker, options, units=()):
-    return Library(checker, {"LINEEND": LINE_ENDS[options.line_end], "HEAPWORDS": options.heap,
-                             "ECHOED": 1 if options.is_echoed else 0,
-                             "MIXED": 1 if APPLESTUFF in units else 0,
-                             "HASFILES": int(checker.has_files), "ISSHOWN": int(options.is_shown),
-                             "MOSTFILES": MOST_FILES if checker.has_files else 2})
+def constants_of(checker, options, units=()):
+    """What the library is told of a program, by names of constants."""
+    return {"LINEEND": LINE_ENDS[options.line_end], "HEAPWORDS": options.heap,
+            "ECHOED": 1 if options.is_echoed else 0, "MIXED": 1 if APPLESTUFF in units else 0,
+            "HASFILES": int(checker.has_files), "ISSHOWN": int(options.is_shown),
+            "MOSTFILES": MOST_FILES if checker.has_files else 2}
 
 
 def checked(text, file, options):
@@ -91,7 +91,7 @@ def checked(text, file, options):
         of_form = dict(faults.places)
         checker.has_files = bool(options.files) or any(
             it.has_files for it in [program, *units])
-        checker.library = library_of(checker, options, used.used)
+        checker.library = Library(checker, constants_of(checker, options, used.used))
         with faults.caught():
             checker.check_program(program, units, used.missing, options.files)
         faults.places = of_form or faults.places  # those of types are told once there are no others
