@@ -68,6 +68,14 @@ def parts():
     return rests, places, routines
 
 
+@lru_cache(maxsize=None)
+def tokens_of(part):
+    """The tokens of a part, which nobody changes."""
+    lexer = Lexer(part.text, part.file, line=part.line)
+    lexer.options["R"] = False  # as {$R-} says at the top of each file
+    return lexer.all()
+
+
 class Library:
     """The symbols of the library by their names: a scope, and what the compiler calls. A procedure
     is declared where it is asked for first, and what stands in front of the procedures of a file
@@ -115,9 +123,7 @@ class Library:
     def declare(self, part):
         """Declares what stands in a part. Its procedures get their bodies later."""
         faults = Faults()
-        lexer = Lexer(part.text, part.file, line=part.line)
-        lexer.options["R"] = False  # as {$R-} says at the top of each file
-        declarations = Parser(lexer.all(), faults).library()
+        declarations = Parser(tokens_of(part), faults).library()
         with self.checker.in_library(self, faults):
             for declaration in declarations:
                 self.checker.declare_of_library(declaration)

@@ -115,7 +115,7 @@ class Flow:
         """What comes behind an instruction, each with its shape."""
         self.at, self.stack = it.at, list(shape)
         self.step(it)
-        if len(self.stack) > MOST_WORDS:
+        if sum(size_of(element) or 0 for element in self.stack) > MOST_WORDS:
             self.refuse("more words are pushed than the stack has", it.at)
         after = tuple(self.stack)
         if it.targets():

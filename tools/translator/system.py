@@ -47,10 +47,10 @@ class System:
         elif number in FILES and console is None:
             self.call_given(number, FILES[number])
         elif number in NUMBERED or is_pushed:
-            self.begin_io()
+            self.begin_io(number)
             self.call_given(number, NUMBERED.get(number) or FILES[number])
         else:
-            self.begin_io()
+            self.begin_io(number)
             self.of_console(number, console.number)
 
     def call_given(self, number, name):
@@ -60,9 +60,9 @@ class System:
         else:
             self.call(name)
 
-    def begin_io(self):
-        """IORESULT begins anew, if it can tell of a file."""
-        if self.has_files:
+    def begin_io(self, number):
+        """IORESULT begins anew, if it can tell of a file; EOF and EOLN leave it."""
+        if self.has_files and number not in (10, 11):
             self.out.many("SLDC 0", f"SRO {self.machine.variable('IOCODE')}")
 
     def of_console(self, number, file):
@@ -85,7 +85,7 @@ class System:
         number = it.operands[0]
         if number in (URD, UWT, HLT):
             if number != HLT:
-                self.begin_io()
+                self.begin_io(number)
             self.out.emit("CSP", number)
         elif number in (IOC, IOR):
             self.outcome(number)
