@@ -137,7 +137,8 @@ class Translation:
 
     def effect(self, key, it):
         """The words that a call takes, and those that it gives."""
-        callee, _ = self.checked_callee(key, it)
+        self.call_of(key, it)
+        callee = self.callee(key, it)
         returned = [it.operands[0] for it in self.code[callee].values() if it.name == "RNP"]
         return self.parts(callee)[1].params, returned[0] if returned else 0
 

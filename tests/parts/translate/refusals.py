@@ -8,14 +8,19 @@ END = "exit:\nRBP 0\n"
 RETURN = "exit:\nRNP 0\n"
 
 
-def program(text, others=(), data=20, number=1, level=0):
-    """A file of one segment: the text of its program, and other procedures with their numbers,
-    levels and texts."""
+def segment(text, others=(), data=20, number=1, level=0):
+    """A segment: the text of its program, and other procedures with their numbers, levels,
+    parameters and texts."""
     made = Assembler()
     made.procedure(1, level, 2, data, text)
     for it, depth, params, body in others:
         made.procedure(it, depth, params, 0, body)
-    return code_file([(number, "OLD", LINKED, made.finished(number))])
+    return made.finished(number)
+
+
+def program(text, others=(), number=1, **more):
+    """A file of one segment."""
+    return code_file([(number, "OLD", LINKED, segment(text, others, number=number, **more))])
 
 
 def changed(data, at, new):
@@ -95,9 +100,9 @@ INSTRUCTIONS = (
     ("a variable of the system", program("LOD 1 1\nSRO 3\n" + END),
      f"{ONE} at 0: LOD 1,1: it uses a variable of the system"),
     ("RBP in a procedure", program("CGP 2\n" + END, [(2, 1, 0, END)]),
-     "procedure 2 at 0: RBP stands in a procedure that is not the program"),
+     "procedure 2 at 14: RBP stands in a procedure that is not the program"),
     ("three words of a function", program("CGP 2\n" + END, [(2, 1, 3, "exit:\nRNP 3\n")]).replace(
-        b"\xcf\x02", b"\xd7\xd7"), "procedure 2 at 0: a function gives 3 words"),
+        b"\xcf\x02", b"\xd7\xd7"), "procedure 2 at 14: a function gives 3 words"),
 )
 # Calls.
 CALLS = (
@@ -106,16 +111,16 @@ CALLS = (
     ("data of an intrinsic unit", program("LDE 21 1\nSRO 3\n" + END),
      f"{ONE} at 0: the data segment 21 of an intrinsic unit is not in the file"),
     ("a word behind a data segment", code_file([
-        (1, "OLD", LINKED, program("LAE 21 9\nSRO 3\n" + END)[BLOCK:BLOCK + 26]),
+        (1, "OLD", LINKED, segment("LAE 21 9\nSRO 3\n" + END)),
         (21, "DATA", DATASEG, 8)], is_apple=True),
      f"{ONE} at 0: the data segment 21 of an intrinsic unit is not in the file"),
     ("no such procedure", program("CGP 9\n" + END),
      f"{ONE} at 0: it calls procedure 9 of segment 1, which has no such procedure"),
     ("CLP of another level", program("CGP 2\n" + END, [(2, 1, 0, "CLP 3\n" + RETURN),
                                                        (3, 1, 0, RETURN)]),
-     "procedure 2 at 0: CLP leads from lex level 1 to a procedure at level 1"),
+     "procedure 2 at 14: CLP leads from lex level 1 to a procedure at level 1"),
     ("a call of the program", program("CGP 2\n" + END, [(2, 1, 0, "CGP 1\n" + RETURN)]),
-     "procedure 2 at 0: CGP leads from lex level 1 to a procedure at level 0"),
+     "procedure 2 at 14: CGP leads from lex level 1 to a procedure at level 0"),
     ("a program of the system", program("CBP 2\n" + END, [(2, 1, 0, RETURN)]),
      f"{ONE} at 0: it calls a program of the system (CBP)"),
     ("EXECERROR", program("CXP 0 2\n" + END),
@@ -155,7 +160,7 @@ SIZES = (
      "old.code: there are 255 procedures at most, and those of the "),
     ("more than 65,534 bytes", code_file([many(1, 2, LARGE + END), many(7, 2, LARGE + RETURN)]),
      "the segment has more than 65534 bytes"),
-    ("more variables than memory", program("CSP 40\nSRO 3\n" + END, data=14000),
-     "the variables of the program have more than 16383 words"),
+    ("more variables than memory", program("LAO 3\nSLDC 1\nCSP 1\n" + END, data=14000),
+     "the variables of the program leave no room for 4000 words of the library"),
 )
 CASES = FORMS + INSTRUCTIONS + CALLS + SIZES
