@@ -38,6 +38,7 @@ class Writer(Sets, System):
         self.out = Output()
         self.skipped = set()
         self.order = list(self.code)
+        self.index = {at: number for number, at in enumerate(self.order)}
         self.targets = {target for it in self.code.values() for target in it.targets()}
         self.targets |= {procedure.enter, procedure.exit}
 
@@ -77,7 +78,7 @@ class Writer(Sets, System):
 
     def is_next(self, it):
         """Whether what comes behind an instruction is written next."""
-        where = self.order.index(it.at) + 1
+        where = self.index[it.at] + 1
         while where < len(self.order) and self.order[where] in self.skipped:
             where += 1
             it = self.code[self.order[where - 1]]

@@ -22,8 +22,11 @@ class Assembler:
         return (value & 65535).to_bytes(2, self.order)
 
     def procedure(self, number, level, params, data, text):
-        """Adds a procedure: its sizes are in words, and its text has a label `exit`."""
-        lines = [line.strip() for line in text.strip().split("\n") if line.strip()]
+        """Adds a procedure: its sizes are in words, and its text, or list of lines, has a label
+        `exit`."""
+        lines = text
+        if isinstance(text, str):
+            lines = [line.strip() for line in text.strip().split("\n") if line.strip()]
         self.labels = {}
         for _ in (1, 2):  # the first time no label is known
             self.far = []
