@@ -69,11 +69,14 @@ def parts():
 
 
 @lru_cache(maxsize=None)
-def tokens_of(part):
-    """The tokens of a part, which nobody changes."""
+def declarations_of(part):
+    """The syntax trees of a part, which nobody changes: a process may compile many programs."""
+    faults = Faults()
     lexer = Lexer(part.text, part.file, line=part.line)
     lexer.options["R"] = False  # as {$R-} says at the top of each file
-    return lexer.all()
+    declarations = Parser(lexer.all(), faults).library()
+    refuse_first(faults)
+    return declarations
 
 
 class Library:
@@ -123,9 +126,8 @@ class Library:
     def declare(self, part):
         """Declares what stands in a part. Its procedures get their bodies later."""
         faults = Faults()
-        declarations = Parser(tokens_of(part), faults).library()
         with self.checker.in_library(self, faults):
-            for declaration in declarations:
+            for declaration in declarations_of(part):
                 self.checker.declare_of_library(declaration)
         refuse_first(faults)
 

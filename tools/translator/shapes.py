@@ -58,6 +58,7 @@ EFFECTS = {
     "LDE": (0, 1), "LDCN": (0, 1), "IXS": (0, 0), "RNP": (0, 0),
 }
 TWO_TO_ONE = (2, 1)  # arithmetic and comparisons of words
+OF_ADDRESSES = ("SIND", "IND", "INC", "LDM")  # of an address that is on the top
 ADDRESSES = {"LLA": 0, "LAO": 0, "LDA": 0, "LAE": 0, "LSA": 0, "LPA": 0, "INC": 1, "IXA": 2}
 
 
@@ -83,6 +84,7 @@ class Notes(NamedTuple):
     exits: dict  # the procedure that an EXIT ends
     sources: dict  # of a SAS what it stores: ADDRESS, CHARACTER or WORD
     files: dict  # of a call of the system the file of the system that it takes, if it is one
+    windows: dict  # of a SIND 0 the number of the file of the system whose window it leads to
     pushed: set  # the files of the system that have to be pushed as numbers
 
 
@@ -92,7 +94,7 @@ class Flow:
 
     def __init__(self, place, level, code, call):
         self.place, self.level, self.code, self.call = place, level, code, call
-        self.notes = Notes({}, {}, {}, {}, {}, set())
+        self.notes = Notes({}, {}, {}, {}, {}, {}, set())
 
     def refuse(self, text, at):
         raise Fault(text, self.place._replace(offset=at))
@@ -196,6 +198,8 @@ class Flow:
             self.stack.append(Known(operands[0], it.at))
         elif name == "LOD" and operands[0] == self.level + 1 and operands[1] in CONSOLES:
             self.stack.append(Console(CONSOLES[operands[1]], it.at))
+        elif name in OF_ADDRESSES and isinstance(self.top(), Console):
+            self.window(it)
         elif name in ADDRESSES:
             self.pop(ADDRESSES[name])
             self.stack.append(ADDRESS)
@@ -211,6 +215,14 @@ class Flow:
             taken, given = EFFECTS.get(name, TWO_TO_ONE)
             self.pop(taken)
             self.push(given, CHARACTER if name in ("LDB", "LDP") else WORD)
+
+    def window(self, it):
+        """SIND 0 of a file of the system leads to its window."""
+        console = self.stack.pop()
+        if it.name != "SIND" or it.operands[0]:
+            self.refuse(f"{it.name} uses a file of the system", it.at)
+        self.notes.windows[it.at] = console.number
+        self.stack.append(ADDRESS)
 
     def source(self):
         """What a SAS stores."""

@@ -136,6 +136,13 @@ class Writer(Sets, System):
         else:
             self.out.emit(it.name, levels, offset)
 
+    def sind(self, it):
+        number = self.notes.windows.get(it.at)
+        if number is None:
+            self.out.emit("SIND", *it.operands)
+        else:
+            self.out.emit("LAO", self.machine.variable("WINDOW") + number - 1)
+
     def extern(self, it):
         """A word of an intrinsic unit's data segment."""
         number, offset = it.operands

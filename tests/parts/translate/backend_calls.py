@@ -2,7 +2,7 @@
 
 from compiler.checking import tree
 from compiler.checking.types import REAL, File
-from compiler.generating.places import Packed
+from compiler.generating.places import Bytes, Packed
 
 COMPARED = {"COMPARE": 4, "COMPAREBYTES": 10, "COMPAREREALS": 2}
 INSTRUCTIONS = {"ADDREALS": "ADR", "SUBREALS": "SBR", "MULREALS": "MPR", "DIVREALS": "DVR",
@@ -12,7 +12,8 @@ STANDARD = {"SINE": 25, "COSINE": 26, "LOGTEN": 27, "ARCTANGENT": 28, "LOGARITHM
             "MOVERIGHT": 3, "FILL": 10, "CHECKIO": 0}
 WRITTEN = {"WRITEINT": 13, "WRITECHAR": 17, "WRITESTRING": 19}
 READ = {"READINT": 12, "READREAL": 14, "READCHAR": 16}
-OF_FILES = {"READSTR": 18, "ENDLINE": 21, "NEXTKEY": 7, "GETTEXT": 7, "RESETFILE": 4}
+OF_FILES = {"READSTR": 18, "ENDLINE": 21, "NEXTKEY": 7, "GETTEXT": 7, "RESETFILE": 4,
+            "PUTTEXTWINDOW": 8}
 
 
 class OldCalls:
@@ -57,7 +58,14 @@ class OldCalls:
         if isinstance(number, tree.Constant):
             self.code.emit("LOD", self.routine.level + 1, {1: 2, 2: 4}[number.value])
         else:
-            self.push_address(self.place(location_of(number)))
+            self.push_address(self.place(self.file_at(number)))
+
+    def file_at(self, number):
+        """The location of a file variable. In the library itself a file is a number."""
+        location = location_of(number)
+        if not isinstance(location.type, File) and self.routine.is_library:
+            self.program.refuse(f"{self.routine.name} of the library")
+        return location
 
     def push_output(self):
         if self.to:
@@ -78,6 +86,15 @@ class OldCalls:
         for k in order or range(len(values)):
             self.push(values[k])
         self.system(number)
+
+    def of_pagefile(self, number):
+        self.push_file(number)
+        self.code.number(12)
+        self.code.number(0)
+        self.system(17)
+
+    def of_opened(self, _number):
+        self.program.refuse("the number of a file")
 
     def of_putchar(self, *arguments):
         self.written([arguments[0], tree.Constant(None, 0), *arguments[1:]], 17)
@@ -161,8 +178,15 @@ class OldCalls:
             self.code.number(value)
         self.system(28)
 
-    def of_peeked(self, _number):
-        self.program.refuse("the window of a text")
+    def element_place(self, location):
+        """F^ of a text: the character to which the first word of the file variable leads."""
+        variable = getattr(location.base, "variable", None)
+        if variable is None or variable is not self.program.library.get("WINDOW"):
+            return super().element_place(location)
+        self.push_file(location.index)
+        self.code.emit("SIND", 0)
+        self.code.number(0)
+        return Bytes()
 
     def assign(self, node):
         """A file variable is opened by a call; IORESULT begins anew with each."""
@@ -333,6 +357,6 @@ class OldCalls:
 
 def location_of(number):
     """The file variable that a number is of."""
-    while isinstance(number, tree.Call):
+    while isinstance(number, tree.Call):  # OPENED or PEEKED
         number = number.arguments[0]
     return number.location

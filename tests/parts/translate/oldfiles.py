@@ -4,7 +4,7 @@ import struct
 
 from .manual import KINDS, OPCODE, SHORT, SIZED, Code
 
-BLOCK = 512
+BLOCK, MOST_FAR = 512, 60
 LINKED, SEGPROC, DATASEG = 0, 2, 7
 
 
@@ -58,6 +58,8 @@ class Assembler:
             return bytes([target - after])
         if target not in self.far:
             self.far.append(target)
+        if len(self.far) > MOST_FAR:
+            raise ValueError("too many jumps")
         return bytes([256 - 10 - 2 * self.far.index(target)])
 
     def instruction(self, at, name, rest=""):
