@@ -5,9 +5,9 @@ import random
 from typing import NamedTuple
 
 from .oldfiles import DATASEG, LINKED, SEGPROC, Assembler, code_file
-from .random_values import (ARRAY, CHARACTER, DATA_SEGMENT, FILE, LOOPS, MARKED, NUMBERS, PACKED,
-                            POINTER, REALS, RECORD, SCRATCH, SETS, STRINGS, TEXT, WORDS, Values,
-                            pushed_real)
+from .random_values import (ARRAY, CHARACTER, DATA_SEGMENT, FEATURES, FILE, LOOPS, MARKED, NUMBERS,
+                            PACKED, POINTER, REALS, RECORD, SCRATCH, SETS, STRINGS, TEXT, WORDS,
+                            Values, pushed_real)
 
 DATA_WORDS = 4
 LINES = (b"12 x\n", b"-7\n", b"HELLO\n", b"\n", b"3 4 5\n", b"A\n")
@@ -22,29 +22,30 @@ class RandomFile(NamedTuple):
 class Maker(Values):
     """Makes the procedures. `exits` has what an EXIT may name here, and `calls` the calls."""
 
-    def __init__(self, source, is_apple, has_files):
-        super().__init__(source, is_apple)
-        self.exits, self.calls, self.has_files = [], [], has_files
+    def __init__(self, source, features):
+        super().__init__(source, features)
+        self.exits, self.calls = [], []
 
     def block(self, level, depth):
         return "".join(self.statement(level, depth)
                        for _ in range(self.random.randrange(1, 4)))
 
     def statement(self, level, depth):
-        makers = [self.assign, self.assign, self.assign_string, self.assign_character,
-                  self.concatenate, self.assign_set, self.assign_set, self.write,
-                  self.change_string, self.store_element, self.assign_real, self.assign_real,
-                  self.store_packed, self.heap, self.move, self.read, self.indexed,
-                  self.copy_words]
+        makers = [(None, self.assign), (None, self.assign), ("strings", self.assign_string),
+                  ("strings", self.assign_character), ("strings", self.concatenate),
+                  ("sets", self.assign_set), ("sets", self.assign_set), (None, self.write),
+                  ("strings", self.change_string), (None, self.store_element),
+                  ("reals", self.assign_real), ("reals", self.assign_real),
+                  ("packed", self.store_packed), ("heap", self.heap), ("moves", self.move),
+                  ("reads", self.read), ("strings", self.indexed), (None, self.copy_words),
+                  ("files", self.use_text), ("files", self.use_records)]
         if self.calls:
-            makers += [self.call] * 3
+            makers += [(None, self.call)] * 3
         if self.exits:
-            makers += [self.leave] * 2
-        if self.has_files:
-            makers += [self.use_text, self.use_records]
+            makers += [("exits", self.leave)] * 2
         if depth > 0:
-            makers += [self.choose, self.loop, self.case, self.choose]
-        return self.choice(makers)(level, depth - 1)
+            makers += [(None, it) for it in (self.choose, self.loop, self.case, self.choose)]
+        return self.chosen(makers)(level, depth - 1)
 
     # Assignments
 
@@ -54,7 +55,7 @@ class Maker(Values):
         return f"SRO {offset}\n"
 
     def assign(self, level, _depth):
-        if self.is_apple and self.random.random() < 0.2:
+        if self.has("data") and self.random.random() < 0.2:
             return self.number(level) + f"STE {DATA_SEGMENT} {self.random.randrange(1, 5)}\n"
         return self.number(level) + self.store(level, self.choice(NUMBERS))
 
@@ -131,9 +132,11 @@ class Maker(Values):
 
     def write(self, level, _depth):
         width, out = self.random.randrange(7), self.out(level)
+        written = self.number(level) + f"SLDC {width}\nCXP 0 13\n"
+        if not self.has("strings"):
+            return out + written + out + "CXP 0 22\n"
         return out + self.choice([
-            self.number(level) + f"SLDC {width}\nCXP 0 13\n",
-            self.string() + f"SLDC {width}\nCXP 0 19\n",
+            written, self.string() + f"SLDC {width}\nCXP 0 19\n",
             f"LDCI {self.random.randrange(65, 91)}\nSLDC {width}\nCXP 0 17\n",
             f"LPA 'abcd'\nSLDC {width}\nSLDC 4\nCXP 0 20\n"]) + out + "CXP 0 22\n"
 
@@ -212,39 +215,45 @@ def exit_of(segment, procedure):
     return f"SLDC {segment}\nSLDC {procedure}\n"
 
 
-def first(has_files):
+def first(maker):
     """What the program begins with."""
     text = "".join(f"SLDC {7 * k}\nSRO {offset}\n" for k, offset in enumerate(NUMBERS))
-    text += f"LDCI 66\nSRO {CHARACTER}\nLAO {POINTER}\nSLDC 2\nCSP 1\n"
-    text += f"LAO {REALS[0]}\n{pushed_real(1.25)}STM 2\n"
-    if has_files:
+    text += f"LDCI 66\nSRO {CHARACTER}\n"
+    if maker.has("heap"):
+        text += f"LAO {POINTER}\nSLDC 2\nCSP 1\n"
+    if maker.has("reals"):
+        text += f"LAO {REALS[0]}\n{pushed_real(1.25)}STM 2\n"
+    if maker.has("files"):
         text += f"LAO {TEXT}\nLAO {CHARACTER}\nLDCI -2\nCXP 0 3\n"
         text += f"LAO {FILE}\nLAO {RECORD}\nSLDC 2\nCXP 0 3\n"
     return text
 
 
-def last():
+def last(maker):
     """What the program ends with: it writes its variables."""
     offsets = [*NUMBERS, PACKED, PACKED + 3, *(offset + k for offset in REALS for k in (0, 1)),
                *(offset + k for offset in SETS for k in (0, 1, 6, 15)), ARRAY, ARRAY + 5]
     text = "".join(f"LOD 1 3\nLDO {offset}\nSLDC 7\nCXP 0 13\n" for offset in offsets)
+    if not maker.has("strings"):
+        return text
     return text + "".join(f"LOD 1 3\nLAO {offset}\nSLDC 0\nCXP 0 19\nLOD 1 3\nSLDC 59\nSLDC 0\n"
                           "CXP 0 17\n" for offset in STRINGS)
 
 
-def segment_one(maker, order, has_files):
+def segment_one(maker, order):
     """The program; a procedure; a function that gives a REAL; and one that takes a set."""
     made = Assembler(order)
-    maker.calls = ["CGP 2", "CXP 7 1", "string"]
+    maker.calls = ["CGP 2", "CXP 7 1"] + ["string"] * maker.has("either")
     maker.has_calls = True
-    program = first(has_files) + "".join(maker.statement(0, 3) for _ in range(12)) + last()
+    program = first(maker) + "".join(maker.statement(0, 3) for _ in range(12)) + last(maker)
     made.procedure(1, 0, 2, WORDS - 2, program + "exit:\nRBP 0\n")
     maker.calls, maker.exits, maker.has_calls = [], [exit_of(1, 2), exit_of(1, 1)], False
     made.procedure(2, 1, 0, 0, maker.block(1, 2) + "exit:\nRNP 0\n")
     maker.exits = []
-    made.procedure(3, 1, 4, 0, "LLA 1\nLLA 3\nLDM 2\n" + maker.real(1, 1)
-                   + "ADR\nSTM 2\nexit:\nRNP 2\n")
-    made.procedure(4, 1, 19, 0, "SLDL 3\nLLA 4\nLDM 16\nSLDC 16\nINN\nSTL 1\nexit:\nRNP 1\n")
+    doubled = "LLA 1\nLLA 3\nLDM 2\n" + maker.real(1, 1) + "ADR\nSTM 2\n"
+    made.procedure(3, 1, 4, 0, doubled * maker.has("reals") + "exit:\nRNP 2\n")
+    tested = "SLDL 3\nLLA 4\nLDM 16\nSLDC 16\nINN\nSTL 1\n"
+    made.procedure(4, 1, 19, 0, tested * maker.has("sets") + "exit:\nRNP 1\n")
     return made.finished(1)
 
 
@@ -252,7 +261,8 @@ def segment_seven(maker, order):
     """A segment procedure with two in it, and one that takes a string or a character."""
     made = Assembler(order)
     maker.segment, maker.has_calls = 7, True
-    maker.calls, maker.exits = ["CLP 2", "CXP 1 2", "CXP 7 2", "string"], [exit_of(7, 1)]
+    maker.calls = ["CLP 2", "CXP 1 2", "CXP 7 2"] + ["string"] * maker.has("either")
+    maker.exits = [exit_of(7, 1)]
     made.procedure(1, 1, 0, 0, maker.block(1, 2) + maker.block(1, 1) + "exit:\nRNP 0\n")
     maker.calls, maker.has_calls = [], False
     maker.exits = [exit_of(7, 1), exit_of(7, 2)]
@@ -261,17 +271,19 @@ def segment_seven(maker, order):
     made.procedure(3, 2, 4, 0, "SLDL 3\nSLDL 4\nADI\nSTL 1\n" + maker.block(2, 0)
                    + "exit:\nRNP 1\n")
     maker.exits = []
-    made.procedure(4, 1, 2, 0, "SLDL 2\nSLDL 1\nSAS 80\nexit:\nRNP 0\n")
+    stored = "SLDL 2\nSLDL 1\nSAS 80\n"
+    made.procedure(4, 1, 2, 0, stored * maker.has("either") + "exit:\nRNP 0\n")
     return made.finished(7)
 
 
 def random_file(seed):
     """A random code file, its order of bytes, and an input."""
     source = random.Random(seed)
-    order, is_apple = source.choice(["little", "little", "big"]), source.random() < 0.3
-    has_files = source.random() < 0.3
-    maker = Maker(source, is_apple, has_files)
-    one = segment_one(maker, order, has_files)
+    order = source.choice(["little", "little", "big"])
+    features = {it for it in FEATURES if source.random() < (0.2 if it == "files" else 0.5)}
+    is_apple = "data" in features
+    maker = Maker(source, features)
+    one = segment_one(maker, order)
     segments = [(1, "RANDOM", LINKED, one), (7, "SEVEN", SEGPROC, segment_seven(maker, order))]
     if is_apple:
         segments.append((DATA_SEGMENT, "DATA", DATASEG, 2 * DATA_WORDS))

@@ -17,12 +17,25 @@ def pushed_real(value):
     return f"LDC {high} {low}\n"
 
 
-class Values:
-    """`level` is the lex level at which a text stands, and `kind` the version of the file."""
+# What a file may have or not.
+FEATURES = ("strings", "sets", "reals", "files", "heap", "packed", "moves", "reads", "either",
+            "exits", "data")
 
-    def __init__(self, source, is_apple):
-        self.random, self.is_apple, self.count = source, is_apple, 0
+
+class Values:
+    """`level` is the lex level at which a text stands, and `features` what the file has."""
+
+    def __init__(self, source, features):
+        self.random, self.features, self.count = source, features, 0
         self.has_calls, self.segment = False, 1
+
+    def has(self, *features):
+        return self.features.issuperset(features)
+
+    def chosen(self, makers):
+        """One of the makers whose feature the file has; each stands behind its feature."""
+        return self.random.choice([make for feature, make in makers
+                                   if feature is None or feature in self.features])
 
     def label(self):
         self.count += 1
@@ -42,13 +55,13 @@ class Values:
         if depth <= 0:
             return self.choice([f"LDCI {self.choice(CONSTANTS)}\n",
                                 self.load(level, self.choice(NUMBERS))])
-        makers = [self.joined, self.joined, self.divided, self.alone, self.of_string, self.of_array,
-                  self.of_packed, self.of_real, self.boolean, self.of_pointer]
-        if self.is_apple:
-            makers.append(self.of_data)
+        makers = [(None, self.joined), (None, self.joined), (None, self.divided),
+                  (None, self.alone), ("strings", self.of_string), (None, self.of_array),
+                  ("packed", self.of_packed), ("reals", self.of_real), (None, self.boolean),
+                  ("heap", self.of_pointer), ("data", self.of_data)]
         if self.has_calls:
-            makers += [self.of_function, self.of_set_function]
-        return self.choice(makers)(level, depth - 1)
+            makers += [(None, self.of_function), ("sets", self.of_set_function)]
+        return self.chosen(makers)(level, depth - 1)
 
     def joined(self, level, depth):
         how = self.choice(["ADI", "SBI", "MPI", "LAND", "LOR"])
@@ -117,11 +130,12 @@ class Values:
     # Booleans
 
     def boolean(self, level, depth=2):
-        makers = [self.compared, self.strings, self.sets, self.member, self.arrays, self.range,
-                  self.reals, self.bits]
+        makers = [(None, self.compared), ("strings", self.strings), ("sets", self.sets),
+                  ("sets", self.member), ("moves", self.arrays), ("sets", self.range),
+                  ("reals", self.reals), (None, self.bits)]
         if depth > 0:
-            makers.append(self.both)
-        return self.choice(makers)(level, depth - 1)
+            makers.append((None, self.both))
+        return self.chosen(makers)(level, depth - 1)
 
     def comparison(self):
         return self.choice(["EQU", "NEQ", "LEQ", "LES", "GEQ", "GRT"])
