@@ -108,6 +108,8 @@ def try_random_pascal(first, count):
 
 # Sizes and steps
 
+MOST = 2
+
 def steps_of(data, given):
     """How many steps a program takes: with one more it ends as it does without a limit."""
     with open("steps.code", "wb") as file:
@@ -122,6 +124,19 @@ def steps_of(data, given):
 
 def size_of(data):
     return int.from_bytes(data[6:8], "little")
+
+
+def try_sizes():
+    """No example is larger or takes more steps than twice what it does when compiled directly."""
+    names = dict((name, given) for name, given, _, _ in reversed(PROGRAMS))
+    names.update((f"old/{name}.pas", given) for name, (given, _) in old_programs.PROGRAMS)
+    worst = 0
+    for name, given in names.items():
+        size, made_size, steps, made_steps = measured(name, given)
+        worst = max(worst, made_size / size, made_steps / steps)
+        must(worst <= MOST, f"{name}: {made_size} bytes for {size}, {made_steps} steps for {steps}")
+    passed(f"{len(names)} examples that are translated are at most {worst:.2f} times as large, and "
+           "take as many steps")
 
 
 def measured(name, given):
