@@ -12,6 +12,7 @@ TYPE
     NUMBER,                      { of the open file, or 0 }
     SIZE: INTEGER                { of a record in words; 0 of a file of blocks }
   END;
+  EIGHT = ARRAY[1..8] OF INTEGER;
   SETROOM = RECORD LEN: INTEGER; W: ARRAY[0..254] OF INTEGER END;
   CELLOFBITS = RECORD CASE BOOLEAN OF
     TRUE: (W: ARRAY[0..254] OF INTEGER);
@@ -31,8 +32,20 @@ VAR
 BEGIN
   N := ORD(ODD(S[0]) AND ODD(255));
   {$R+} LEFT := M - N; {$R-}     { error 1: the string has no room }
-  FOR I := 0 TO (N + 1) DIV 2 - 1 DO D[I] := S[I];
+  I := 0;
+  M := (N + 1) DIV 2;            { whole words, of which eight go at once }
+  WHILE I + 8 <= M DO
+    BEGIN
+      RTEIGHT(D[I], S[I]);
+      I := I + 8
+    END;
+  FOR I := I TO M - 1 DO D[I] := S[I];
   IF NOT ODD(N) THEN RTLASTBYTE(D, S, N)
+END;
+
+PROCEDURE RTEIGHT(VAR D, S: EIGHT);
+BEGIN
+  D := S
 END;
 
 PROCEDURE RTLASTBYTE(VAR D, S: BYTES; N: INTEGER);
@@ -186,9 +199,18 @@ BEGIN
     END
 END;
 
-FUNCTION RTIN(X: INTEGER; VAR S: BITS; N: INTEGER): BOOLEAN;     { of N words }
+FUNCTION RTIN(X: INTEGER; VAR S: BITS; LAST: INTEGER): BOOLEAN;
 BEGIN
-  RTIN := HAS(S, X, 16 * N - 1)
+  IF (X < 0) OR (X > LAST) THEN RTIN := FALSE ELSE RTIN := S[X]
+END;
+
+{ One element more or less of a set whose last one may be LAST }
+PROCEDURE RTELEMENT(X: INTEGER; VAR S: BITS; LAST: INTEGER; ISIN: BOOLEAN);
+VAR
+  FITTING: 0..4079;
+BEGIN
+  {$R+} FITTING := X; {$R-}      { error 1: no set has such an element }
+  IF X <= LAST THEN S[X] := ISIN
 END;
 
 FUNCTION RTSAMESET(VAR A, B: SETROOM): BOOLEAN;

@@ -132,7 +132,7 @@ class Sets:
         room = self.held or LOWER
         self.take(count, room)
         base = self.machine.variable(room)
-        self.out.many(f"LAO {base + 1}", f"LDO {base}")
+        self.out.many(f"LAO {base + 1}", f"LDO {base}", "SLDC 16", "MPI", "SLDC 1", "SBI")
         self.call("RTIN")
 
     def compare_sets(self, it):
@@ -146,7 +146,35 @@ class Sets:
         if it.name == "NEQ":
             self.out.many("SLDC 0", "EQUI")
 
+    def is_one_element(self, it):
+        """Whether the set of one element is only added to a set of a length that stays, or taken
+        from it."""
+        how = self.next(it)
+        fitted = self.next(how) if how and how.name in ("UNI", "DIF") else None
+        if not fitted or fitted.name != "ADJ":
+            return False
+        lower = self.notes.sets[how.at][0]
+        return lower == fitted.operands[0] and 0 < lower
+
+    def one_element(self, it):
+        how = self.next(it)
+        count, = self.next(how).operands
+        one = self.machine.variable("RTONE")
+        self.out.emit("SRO", one)
+        self.take(count, LOWER)
+        base = self.machine.variable(LOWER)
+        self.out.many(f"LDO {one}", f"LAO {base + 1}")
+        self.out.number(16 * count - 1)
+        self.out.number(int(how.name == "UNI"))
+        self.call("RTELEMENT")
+        self.out.many(f"LAO {base + 1}", f"LDM {count}")
+        self.skip(self.next(how))
+        self.skip(how)
+
     def sgs(self, it):
+        if self.is_one_element(it):
+            self.one_element(it)
+            return
         one = self.machine.variable("RTONE")
         self.out.many(f"SRO {one}", f"LDO {one}", f"LDO {one}")
         self.srs(it)
@@ -169,10 +197,29 @@ class Sets:
             return False
         return length.name in ("SLDC", "LDCI")
 
+    def is_range(self, words):
+        """The first and the last element, if the set has all between; else None."""
+        bits = sum(word << 16 * k for k, word in enumerate(words))
+        first, count = (bits & -bits).bit_length() - 1, bin(bits).count("1")
+        return (first, first + count - 1) if bits >> max(first, 0) == (1 << count) - 1 else None
+
+    def within(self, low, high):
+        """The word on the top is compared with both ends of a range."""
+        one = self.machine.variable("RTONE")
+        self.out.many(f"SRO {one}", f"LDO {one}")
+        self.out.number(low)
+        self.out.many("GEQI", f"LDO {one}")
+        self.out.number(high)
+        self.out.many("LEQI", "LAND")
+        self.skip_test()
+
+    def skip_test(self):
+        length = self.next()
+        self.skip(self.next(length))
+        self.skip(length)
+
     def tested(self, count):
         """x and the address of the words are pushed."""
-        length = self.next()
-        self.out.number(count)
+        self.out.number(16 * count - 1)
         self.call("RTIN")
-        self.skip(length)
-        self.skip(self.next(length))
+        self.skip_test()

@@ -40,7 +40,14 @@ class Writer(Sets, System):
         self.order = list(self.code)
         self.index = {at: number for number, at in enumerate(self.order)}
         self.targets = {target for it in self.code.values() for target in it.targets()}
-        self.targets |= {procedure.enter, procedure.exit}
+        self.targets |= {procedure.enter, procedure.exit, *self.passed_over()}
+
+    def passed_over(self):
+        """The offsets behind instructions that do not stand in front of the next one: they lead
+        into another, or past one that overlaps them."""
+        for it, behind in zip(self.code.values(), [*self.order[1:], None]):
+            if it.name not in LAST and it.after != behind:
+                yield it.after
 
     def place(self, at=None):
         return self.segment.place._replace(procedure=self.procedure.number, offset=at)
@@ -72,9 +79,6 @@ class Writer(Sets, System):
             self.translate(it)
         if it.name not in LAST and not self.is_next(it):
             self.out.emit("UJP", name_of(it.after))
-            self.targets.add(it.after)
-            if it.after in self.code and it.after < at and name_of(it.after) not in self.out.labels:
-                self.refuse("an instruction leads into another one", it)
 
     def is_next(self, it):
         """Whether what comes behind an instruction is written next."""
@@ -173,6 +177,10 @@ class Writer(Sets, System):
         length = self.next()
         is_length = length and length.name == "SLDC" and length.operands == [len(words)]
         if words and is_length and self.is_tested(len(words)):
+            ends = self.is_range(words)
+            if ends and ends[0] >= 0:
+                self.within(*ends)
+                return
             self.out.emit("LAO", self.machine.text(words))
             self.tested(len(words))
         else:
@@ -264,9 +272,6 @@ class Writer(Sets, System):
         self.after_call(it)
 
     cgp = cip = clp
-
-    def cbp(self, it):
-        self.refuse("it calls a program of the system (CBP)", it)
 
     def cxp(self, it):
         if it.operands[0] == 0:

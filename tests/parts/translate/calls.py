@@ -3,7 +3,7 @@ standard procedures. READ shows what it reads, as the run-time of a translated p
 
 import math
 
-BLANK = 32
+BLANK, HEAP = 32, 0x8000
 
 
 class Halt(Exception):
@@ -271,7 +271,7 @@ class Calls:
                 del file.data[file.at:]
             if how in (1, 3):
                 self.directory[file.name] = file.data
-            elif how == 2:
+            elif how == 2 and not file.is_new:
                 self.directory.pop(file.name, None)
 
     def record(self, variable, is_put):
@@ -350,6 +350,8 @@ class Calls:
 
     def release(self):
         at = self.address()
+        if self.word(at) < HEAP:  # what no MARK has given
+            raise Halt("error 1")
         self.heap = self.word(at)
         self.store(at, 0)
 

@@ -4,10 +4,10 @@ does stands in `calls.py`."""
 import struct
 import sys
 
-from .calls import Calls, Halt
+from .calls import HEAP, Calls, Halt
 from .oldfiles import segments_of
 
-STACK, HEAP, LITERALS, DATA = 0x1000, 0x8000, 0xD000, 0xF000
+STACK, LITERALS, DATA = 0x1000, 0xD000, 0xF000
 DEEPEST = 5000  # of Python's own calls
 CONSOLES = {2: 1, 3: 1, 4: 2}  # offsets of the system's frame, with what is pushed for a file
 

@@ -245,7 +245,7 @@ def segment_one(maker, order):
     made = Assembler(order)
     maker.calls = ["CGP 2", "CXP 7 1"] + ["string"] * maker.has("either")
     maker.has_calls = True
-    program = first(maker) + "".join(maker.statement(0, 3) for _ in range(12)) + last(maker)
+    program = first(maker) + "".join(maker.statement(0, 3) for _ in range(10)) + last(maker)
     made.procedure(1, 0, 2, WORDS - 2, program + "exit:\nRBP 0\n")
     maker.calls, maker.exits, maker.has_calls = [], [exit_of(1, 2), exit_of(1, 1)], False
     made.procedure(2, 1, 0, 0, maker.block(1, 2) + "exit:\nRNP 0\n")
@@ -280,7 +280,7 @@ def random_file(seed):
     """A random code file, its order of bytes, and an input."""
     source = random.Random(seed)
     order = source.choice(["little", "little", "big"])
-    features = {it for it in FEATURES if source.random() < (0.2 if it == "files" else 0.5)}
+    features = {it for it in FEATURES if source.random() < (0.15 if it == "files" else 0.35)}
     is_apple = "data" in features
     maker = Maker(source, features)
     one = segment_one(maker, order)

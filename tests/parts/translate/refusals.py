@@ -99,6 +99,8 @@ INSTRUCTIONS = (
      f"{ONE} at 2: it takes words of a set whose length is not known"),
     ("a variable of the system", program("LOD 1 1\nSRO 3\n" + END),
      f"{ONE} at 0: LOD 1,1: it uses a variable of the system"),
+    ("a file of the system as a record", program("LOD 1 2\nSIND 1\nSRO 3\n" + END),
+     f"{ONE} at 3: SIND uses a file of the system"),
     ("RBP in a procedure", program("CGP 2\n" + END, [(2, 1, 0, END)]),
      "procedure 2 at 14: RBP stands in a procedure that is not the program"),
     ("three words of a function", program("CGP 2\n" + END, [(2, 1, 3, "exit:\nRNP 3\n")]).replace(
