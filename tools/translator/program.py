@@ -16,6 +16,7 @@ from .exits import spread_of
 from .runtime import Machine
 from .shapes import WORD, Flow
 from .system import NEEDING_FILES
+from .table import LIBRARY
 from .writing import Writer
 
 MAIN = (1, 1)
@@ -117,8 +118,10 @@ class Translation:
             self.refuse("it calls a program of the system (CBP)", place)
         if callee not in self.numbers:
             if callee[0] not in self.found.segments:
+                unit = LIBRARY.get(callee[0])
                 self.refuse(f"it calls procedure {callee[1]} of segment {callee[0]}, which is not "
-                            "in the file: an intrinsic unit of the library", place)
+                            "in the file: an intrinsic unit of the library"
+                            + f" ({unit} in Apple Pascal)" * bool(unit), place)
             self.refuse(f"it calls procedure {callee[1]} of segment {callee[0]}, which has no such "
                         "procedure", place)
         return callee, place

@@ -71,6 +71,9 @@ STANDARD = {
     40: ("MAV", 0, 1),
 }
 EXIT = 4
+# Units of Apple Pascal's library, by the numbers of their segments.
+LIBRARY = {20: "TURTLEGRAPHICS", 22: "APPLESTUFF", 28: "CHAINSTUFF", 29: "TRANSCEND",
+           30: "LONGINTIO", 31: "PASCALIO"}
 
 
 def system_name(number):

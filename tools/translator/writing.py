@@ -196,7 +196,28 @@ class Writer(Sets, System):
 
     def lsa(self, it):
         characters = it.operands[0]
-        self.text(bytes([len(characters)]) + characters)
+        stored = self.next()
+        data = bytes([len(characters)]) + characters
+        if stored and stored.name == "SAS" and len(characters) <= stored.operands[0]:
+            self.store_text(data)
+            self.skip(stored)
+        else:
+            self.text(data)
+
+    def store_text(self, data):
+        """A text that is known goes to the address on the top, and not a byte more."""
+        last, one = len(data) - 1, self.machine.variable("RTONE")
+        if len(data) % 2 and last:
+            self.out.many(f"SRO {one}", f"LDO {one}")
+        if last:
+            self.text(data)
+            self.out.emit("MOV", len(data) // 2)
+        if len(data) % 2:
+            if last:
+                self.out.emit("LDO", one)
+            for number in (last, data[last]):
+                self.out.number(number)
+            self.out.emit("STB")
 
     def lpa(self, it):
         self.text(it.operands[0])

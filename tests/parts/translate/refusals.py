@@ -109,7 +109,8 @@ INSTRUCTIONS = (
 # Calls.
 CALLS = (
     ("an intrinsic unit", two_segments(20, "CXP 20 1\n", False),
-     f"{ONE} at 0: it calls procedure 1 of segment 20, which is not in the file: an intrinsic"),
+     f"{ONE} at 0: it calls procedure 1 of segment 20, which is not in the file: an intrinsic unit "
+     "of the library (TURTLEGRAPHICS in Apple Pascal)"),
     ("data of an intrinsic unit", program("LDE 21 1\nSRO 3\n" + END),
      f"{ONE} at 0: the data segment 21 of an intrinsic unit is not in the file"),
     ("a word behind a data segment", code_file([
