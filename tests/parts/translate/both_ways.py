@@ -21,6 +21,7 @@ from ..program import TOP as REPOSITORY
 from ..program import PROGRAM, must, ran
 from .backend import NoOldCode, old_code
 from .comparing import kind_of, run
+from .interpreter import interpreted
 
 EXAMPLES = os.path.join(REPOSITORY, "examples")
 # Programs for which the old way has nothing, with the reason that the back end gives.
@@ -30,6 +31,16 @@ WITHOUT = {
 }
 # ADJ cuts an element that a set has not, and the compiler's own way is an execution error.
 OTHERWISE = {"error 1: an element that a set has not"}
+# What the interpreter has otherwise: address 0, the size of the heap, backspaces, names of devices
+# and of files, windows of texts, and what is said in front of error 10.
+APART = OTHERWISE | {
+    "NIL", "a full heap", "a backspace takes a character back", "RESET of the console's names",
+    "files of other names", "a file that is not open", "names have no case, volume and size",
+    "INPUT^ is what was read last, and GET reads", "EOLN and EOF look ahead in a text",
+    "characters of a text by its window", "a file that is not there",
+    "a text is shown in the middle of files",
+}
+STEPS = 200000  # of the interpreter
 
 
 def texts():
@@ -48,26 +59,39 @@ def texts():
         yield name, text, "t.pas", ""
 
 
+def judged(name, old, given, direct):
+    """What the interpreter says of the old code: `and interpreted`, if it can do it."""
+    output, ending = interpreted(old, given, STEPS)
+    if ending == "steps" or "procedure" in ending or name in APART:
+        return ""
+    is_same = output == direct[0] and kind_of(ending) == kind_of(direct[1])
+    must(is_same, f"{name}: {direct} is interpreted as {output} and {ending}")
+    return ", and interpreted"
+
+
 def both(name, text, file, given):
     """`same`, or why there is no old code. It is an error if the two ways differ."""
+    given = given.encode("latin-1")
     try:
         old = old_code(text, file)
     except NoOldCode as reason:
         must(str(reason) in WITHOUT, f"{name}: there is no old code: {reason}")
         return f"without old code ({reason})"
-    direct = run(compile_text(text, file).data, given.encode("latin-1"))
+    direct = run(compile_text(text, file).data, given)
     try:
         made = translate(read(old, "old.code"))
     except Fault as fault:
         must(False, f"{name} is refused: {fault.place}: {fault}")
-    found = run(made.data, given.encode("latin-1"))
+    found = run(made.data, given)
     is_same = found[0] == direct[0] and kind_of(found[1]) == kind_of(direct[1])
     must(is_same or name in OTHERWISE, f"{name}: {direct} becomes {found}")
-    return "same" if is_same else "otherwise, as is known"
+    if not is_same:
+        return "otherwise, as is known"
+    return "same" + judged(name, old, given, direct)
 
 
 def told(counts):
-    return ", ".join(f"{number} {what}" for what, number in sorted(counts.items()))
+    return "; ".join(f"{number} {what}" for what, number in sorted(counts.items()))
 
 
 def try_pascal(step):
