@@ -80,6 +80,10 @@ def constants_of(checker, options, units=()):
             "MOSTFILES": MOST_FILES if checker.has_files else 2}
 
 
+def library_of(checker, options, units=()):
+    return Library(checker, constants_of(checker, options, units))
+
+
 def checked(text, file, options):
     """The checker of a program that has no fault, and notes on it."""
     faults = Faults()
@@ -91,7 +95,7 @@ def checked(text, file, options):
         of_form = dict(faults.places)
         checker.has_files = bool(options.files) or any(
             it.has_files for it in [program, *units])
-        checker.library = Library(checker, constants_of(checker, options, used.used))
+        checker.library = library_of(checker, options, used.used)
         with faults.caught():
             checker.check_program(program, units, used.missing, options.files)
         faults.places = of_form or faults.places  # those of types are told once there are no others
