@@ -170,4 +170,21 @@ def try_volume():
     passed("a file is taken out of an image, in both orders of its sectors")
 
 
-TESTS = (try_refusals, try_example, try_command, try_volume)
+# 300.0 as three machines have it: the words of an LDC, the higher one in memory first. The PDP-11's
+# exponent is 2 greater than that of IEEE 754, whose words are 4396 and 0000 in hexadecimal.
+REALS = {"low": (0x4396, 0), "high": (0, 0x4396), "pdp": (0, 0x4396 + (2 << 7))}
+
+
+def try_reals():
+    """REAL constants in three forms."""
+    for form, words in REALS.items():
+        write("REAL.CODE", program(f"LOD 1 3\nLDC {words[0]} {words[1]}\nCSP 23\nSLDC 0\nCXP 0 13\n"
+                                   + END))
+        status, _, err = tool("REAL.CODE", "-o", "real.code", "--reals", form)
+        must(status == 0, err)
+        found = run(bytes_of("real.code"), b"")
+        must(found == (b"300", "normal"), f"300.0 in the form {form} is {found}")
+    passed("REAL constants are taken in three forms")
+
+
+TESTS = (try_refusals, try_example, try_command, try_volume, try_reals)
