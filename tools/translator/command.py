@@ -111,6 +111,9 @@ def put(data, words):
 def main(arguments):
     """Runs the command, and answers its status."""
     words = words_parser().parse_args(arguments)
+    if sys.stdout is None and (words.check or words.list or words.map or words.where):
+        print("standard output: it is closed", file=sys.stderr)
+        return 1
     sys.setrecursionlimit(RECURSION)
     try:
         make(words)
