@@ -72,12 +72,16 @@ def parsed_unit(text, file, faults):
     return parsed(text, file, faults, Parser.unit)
 
 
+def constants_of(checker, options, units=()):
+    """What the library is told of a program, by names of constants."""
+    return {"LINEEND": LINE_ENDS[options.line_end], "HEAPWORDS": options.heap,
+            "ECHOED": 1 if options.is_echoed else 0, "MIXED": 1 if APPLESTUFF in units else 0,
+            "HASFILES": int(checker.has_files), "ISSHOWN": int(options.is_shown),
+            "MOSTFILES": MOST_FILES if checker.has_files else 2}
+
+
 def library_of(checker, options, units=()):
-    return Library(checker, {"LINEEND": LINE_ENDS[options.line_end], "HEAPWORDS": options.heap,
-                             "ECHOED": 1 if options.is_echoed else 0,
-                             "MIXED": 1 if APPLESTUFF in units else 0,
-                             "HASFILES": int(checker.has_files), "ISSHOWN": int(options.is_shown),
-                             "MOSTFILES": MOST_FILES if checker.has_files else 2})
+    return Library(checker, constants_of(checker, options, units))
 
 
 def checked(text, file, options):

@@ -68,6 +68,17 @@ def parts():
     return rests, places, routines
 
 
+@lru_cache(maxsize=None)
+def declarations_of(part):
+    """The syntax trees of a part, which nobody changes: a process may compile many programs."""
+    faults = Faults()
+    lexer = Lexer(part.text, part.file, line=part.line)
+    lexer.options["R"] = False  # as {$R-} says at the top of each file
+    declarations = Parser(lexer.all(), faults).library()
+    refuse_first(faults)
+    return declarations
+
+
 class Library:
     """The symbols of the library by their names: a scope, and what the compiler calls. A procedure
     is declared where it is asked for first, and what stands in front of the procedures of a file
@@ -115,11 +126,8 @@ class Library:
     def declare(self, part):
         """Declares what stands in a part. Its procedures get their bodies later."""
         faults = Faults()
-        lexer = Lexer(part.text, part.file, line=part.line)
-        lexer.options["R"] = False  # as {$R-} says at the top of each file
-        declarations = Parser(lexer.all(), faults).library()
         with self.checker.in_library(self, faults):
-            for declaration in declarations:
+            for declaration in declarations_of(part):
                 self.checker.declare_of_library(declaration)
         refuse_first(faults)
 

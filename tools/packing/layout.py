@@ -16,9 +16,10 @@ TOP = manual.TOP
 # scripts find each other and the program, which is its `run`.
 LIBRARY = "lib/pgroup"
 SCRIPTS = [*manual.SCRIPTS, "console"]
-# The compiler and the assembler: what is called, and the folders that they need.
-COMPILERS = ("assemble", "compile", "files", "volume")
-COMPILER_FILES = ("assembler/**/*", "compiler/**/*", "pcode/**/*", "volumes/**/*")
+# The compiler, the assembler and the translator: what is called, and the folders that they need.
+COMPILERS = ("assemble", "compile", "files", "translate", "volume")
+COMPILER_FILES = ("assembler/**/*", "compiler/**/*", "pcode/**/*", "translator/**/*",
+                  "volumes/**/*")
 # The pages and pictures, with all pages that they link to. Their other links, to sources, tests and
 # scripts, lead into the repository alone.
 PAGES = (

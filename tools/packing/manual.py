@@ -160,6 +160,8 @@ def script_pages():
     pages["pgroup-compile.1"] = page_of_words("compile", compiler)
     volume = module_of("volumes.command").words_parser()
     pages["pgroup-volume.1"] = page_of_words("volume", volume)
+    translator = module_of("translator.command").words_parser()
+    pages["pgroup-translate.1"] = page_of_words("translate", translator)
     files = parser_of_script(os.path.join(TOOLS, "files"))
     pages["pgroup-files.1"] = page_of_words("files", files)
     return {**pages, "pgroup-assemble.1": assembler_page(), "pgroup-console.1": console_page()}

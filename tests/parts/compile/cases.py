@@ -156,6 +156,10 @@ PROCEDURE Q(VAR A: STRING); BEGIN A := T; T := A END;""",
     ("sets", COLORS, "S := [RED, BLUE]; T := S - [RED]; FOR C := RED TO BLUE DO WRITE(C IN T); "
      "T := T + [GREEN..GREEN]; WRITE(T = [GREEN, BLUE], T <= [RED..BLUE], S * T = [BLUE], "
      "[] <= S, S >= [GREEN])", "", "FALSEFALSETRUETRUETRUETRUETRUEFALSE", ""),
+    ("an element of a set is worked out once", """VAR S: SET OF 0..9; N: INTEGER;
+FUNCTION F: INTEGER; BEGIN N := N + 1; F := N END;""",
+     "N := 0; S := [F]; WRITE(N, 1 IN S, 2 IN S); S := [7] + [F]; WRITE(N, 2 IN S, 7 IN S)", "",
+     "1TRUEFALSE2TRUETRUE", ""),
     ("a set of 4,080", "VAR S: SET OF 0..4079; I: INTEGER;",
      "I := 4079; S := [5, I]; WRITE(I IN S, 4078 IN S, 5 IN S); WRITE(SIZEOF(S)); "
      "S := S + [I + 1]", "", "TRUEFALSETRUE510", ERROR + " 1"),

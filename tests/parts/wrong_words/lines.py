@@ -11,7 +11,7 @@ new           a name that is free                                 session the ch
 # The scripts that refuse an option that they have not.
 NAMES = (
     "lead", "attach", "renew", "replay", "draw", "status", "supervise", "compile", "assemble",
-    "volume", "console", "package",
+    "volume", "translate", "console", "package",
 )
 
 SUPERVISE = (
@@ -207,6 +207,23 @@ SUPERVISE 2 @{folder}
 1 volume {new} --put {folder}
 2 volume {new} --put {pas} --blocks 3
 2 volume {new} --put {pas} --blocks x
+2 translate
+2 translate --check --list {code}
+2 translate --where 1 x {code}
+2 translate {code} {code}
+2 translate --reals x {code}
+1 translate {none}
+1 translate {folder}
+1 translate {noise}
+1 translate {empty}
+1 translate --check {pas}
+1 translate {code} -o {code}
+1 translate {code} -o {folder}
+1 translate {code} -o {none}/x
+1 translate {code} -o /dev/full
+1 translate --volume {none} X.CODE
+1 translate --volume {noise} X.CODE
+1 translate --where 1 1 {code}
 2 console
 2 console {code} {code}
 2 console --steps

@@ -76,14 +76,19 @@ class Blocks(Values):
                 for element in range(low.value, last + 1):
                     known[element // 16] |= 1 << element % 16
             else:
-                rest.append((low, high or low))
+                rest.append((low, high))
         self.store_words(room, known)
         for low, high in rest:
             self.push_address(room)
             self.push(low)
-            self.push(high)
+            if high:
+                self.push(high)
             self.code.number(16 * words - 1)
-            self.call_library("INCLUDE")
+            if high:
+                self.call_library("INCLUDE")
+            else:
+                self.code.number(1)
+                self.call_library("PUTELEME")
 
     # Long integers
 
