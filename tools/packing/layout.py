@@ -77,8 +77,9 @@ class Tree:
 def put_scripts(tree):
     for name in manual.SCRIPTS:
         tree.copy(os.path.join(manual.GROUP, name), f"{LIBRARY}/tools/group/{name}")
-    shared = os.path.join(manual.GROUP, "shared", "**", "*.py")
-    for path in sorted(glob.glob(shared, recursive=True)):
+    shared = os.path.join(manual.GROUP, "shared", "**")
+    found = glob.glob(f"{shared}/*.py", recursive=True) + glob.glob(f"{shared}/static/*")
+    for path in sorted(set(found)):
         tree.copy(path, f"{LIBRARY}/tools/{os.path.relpath(path, manual.TOOLS)}")
     for name in ("console", "tools/bash/provide.bash"):
         tree.copy(os.path.join(TOP, name), f"{LIBRARY}/{name}")

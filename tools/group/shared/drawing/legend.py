@@ -1,12 +1,9 @@
-"""The colours of a picture, and the lines below it that say what they mean."""
+"""How a picture looks, and the lines below it that say what its signs mean."""
 
 from ..replica.datagram import KINDS
 from . import svg
+from .colours import COLOURS, LANES
 
-COLOURS = {
-    "prepare": "#1d4fa8", "promise": "#4d8fe0", "accept": "#1b6e34", "accepted": "#3fa35a",
-    "refused": "#c62828", "submit": "#7b3fa0", "ask": "#8a8a8a", "tell": "#9a6a2c",
-}
 FONT = "font-family: DejaVu Sans, Helvetica, Arial, sans-serif"
 MONO = "font-family: DejaVu Sans Mono, Menlo, Consolas, monospace"
 # What a line below the picture needs.
@@ -20,22 +17,23 @@ def style_of_kinds():
     return "\n".join(rules)
 
 
+ON = {name.replace("-", "_"): light for name, (light, _) in LANES.items()}
 STYLE = f"""
 text{{{FONT};font-size:10px;fill:#222}} .back{{fill:#fff}} .none{{fill:none}}
 .when{{font-size:9px;fill:#888}} .title{{font-size:15px;font-weight:bold}}
 .name{{font-size:12px;font-weight:bold}}
-.strip{{fill:#f1f1ec}} .console,.value,.keyed{{{MONO};font-size:10px}}
-.down{{stroke:#bbb;stroke-width:1;stroke-dasharray:1 4}} .up{{stroke:#444;stroke-width:2}}
-.leads{{stroke:#f2a81d;stroke-width:8}} .save{{fill:#111;stroke:#fff;stroke-width:0.7}}
-.failed{{fill:#fff;stroke:#c62828;stroke-width:2}} .start{{fill:#111}}
-.crash{{fill:none;stroke:#c62828;stroke-width:3}}
+.strip{{fill:{ON["strip"]}}} .console,.value,.keyed{{{MONO};font-size:10px}}
+.down{{stroke:{ON["down"]};stroke-width:1;stroke-dasharray:1 4}} .up{{stroke:{ON["up"]};stroke-width:2}}
+.leads{{stroke:{ON["leads"]};stroke-width:8}} .save{{fill:#111;stroke:#fff;stroke-width:0.7}}
+.failed{{fill:#fff;stroke:#c62828;stroke-width:2}} .start{{fill:{ON["start"]}}}
+.crash{{fill:none;stroke:{ON["crash"]};stroke-width:3}}
 .m{{fill:none;stroke-width:1.2}} .s0{{opacity:0.22}} .m.s1{{opacity:0.4;stroke-width:0.8}}
 .label{{font-size:9px;paint-order:stroke;stroke:#fff;stroke-width:3px;stroke-linejoin:round}}
 .label.s0{{opacity:0.5}} .lost{{stroke-width:1.6}}
 .flag{{font-weight:bold;paint-order:stroke;stroke:#fff;stroke-width:3px}}
 .flag.leads{{fill:#b06f00}} .flag.refused,.flag.failing{{fill:#c62828}}
-.key{{fill:#fff;stroke:#222}} .learned{{fill:#e8f5e4;stroke:#3fa35a;stroke-width:0.8}}
-.tick{{stroke:#3fa35a;stroke-width:0.8}} .place{{font-size:9px;fill:#1b6e34}}
+.key{{fill:#fff;stroke:#222}} .learned{{fill:{ON["learned_back"]};stroke:{ON["learned"]};stroke-width:0.8}}
+.tick{{stroke:{ON["learned"]};stroke-width:0.8}} .place{{font-size:9px;fill:#1b6e34}}
 {style_of_kinds()}
 """
 
