@@ -136,7 +136,7 @@ class Handler(http.server.BaseHTTPRequestHandler):
         self.rfile = Head(self.rfile)
 
     def handle_one_request(self):
-        self.rfile.room = HEAD
+        self.rfile.room, self.is_read = HEAD, False
         self.server.wait_for(self.request)
         super().handle_one_request()
 
@@ -156,7 +156,8 @@ class Handler(http.server.BaseHTTPRequestHandler):
     def send_error(self, code, message=None, explain=None):
         """What http.server refuses by itself."""
         self.close_connection = True
-        self.command = self.command or "GET"
+        # What has no version that is known is answered as the others are.
+        self.command, self.request_version = self.command or "GET", self.protocol_version
         code = 405 if code == 501 else code
         more = {"Allow": "GET, HEAD, POST"} if code == 405 else {}
         self.answer(code, "text/plain", b"That is no request of this page.\n", **more)
@@ -182,7 +183,8 @@ class Handler(http.server.BaseHTTPRequestHandler):
         self.answer(status, "application/json", json.dumps(value).encode(), **more)
 
     def refuse(self, status, why):
-        self.close_connection = True
+        # What was not read of a body would be taken for the next request.
+        self.close_connection = self.close_connection or not self.is_read
         if self.command == "POST":
             self.answer_json(status, {"text": why})
         else:
@@ -245,6 +247,7 @@ class Handler(http.server.BaseHTTPRequestHandler):
         if len(data) < int(size):
             raise OSError("the connection has ended")
         self.server.awaited.pop(self.request, None)
+        self.is_read = True
         return data
 
     def post(self, url):
