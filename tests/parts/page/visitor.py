@@ -30,7 +30,7 @@ class Page(Running):
             role, port, token = re.match(r"to (\w+):\s+http://127\.0\.0\.1:(\d+)/#(\S+)$",
                                          line).groups()
             self.tokens[role], self.port = token, int(port)
-            if role == "watch":
+            if role == "watch":  # It is the last one.
                 return
         raise Broken(f"the page has not started: {self.said()}")
 
@@ -104,6 +104,11 @@ class Visitor:
             raise OSError(str(fault))
         self.last_headers = answer.headers
         return answer.status, value
+
+    def ask(self, path, asked):
+        """The same by a new connection: the page ends one at which nothing comes for a while."""
+        self.leave()
+        return self.post(path, asked)
 
     def leave(self):
         if self.connection:
@@ -217,7 +222,8 @@ class Visitor:
 
     def node(self, number):
         """What the group's last picture has of a node."""
-        return next(it for it in self.group["nodes"] if it["node"] == number)
+        nodes = self.group["nodes"] if self.group else []
+        return next((it for it in nodes if it["node"] == number), {"state": None})
 
     def end(self):
         self.is_over = True

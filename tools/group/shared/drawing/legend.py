@@ -38,19 +38,49 @@ text{{{FONT};font-size:10px;fill:#222}} .back{{fill:#fff}} .none{{fill:none}}
 """
 
 
+# What stands on lanes, each drawn from its left edge on, on a line of text at y.
+SIGNS = {
+    "leads": lambda x, y: svg.line((x, y - 4), (x + 20, y - 4), "leads"),
+    "up": lambda x, y: svg.line((x, y - 4), (x + 20, y - 4), "up"),
+    "down": lambda x, y: svg.line((x, y - 4), (x + 20, y - 4), "down"),
+    "stopped": lambda x, y: svg.line((x, y - 4), (x + 20, y - 4), "stopped"),
+    "unknown": lambda x, y: svg.line((x, y - 4), (x + 20, y - 4), "unknown"),
+    "start": lambda x, y: svg.path(f"M{x} {y - 10}l8 6l-8 6z", "start"),
+    "crash": lambda x, y: svg.cross(x + 5, y - 4, 5, "crash"),
+    "save": lambda x, y: svg.element("circle", cx=x + 4, cy=y - 4, r=3.5, class_="save"),
+    "learned": lambda x, y: svg.rect(x, y - 10, 13, 12, "learned", rx=2),
+    "votes": lambda x, y: svg.path(f"M{x + 4} {y - 9}v9m5-9v9m5-9v9", "tick"),
+    "console": lambda x, y: svg.rect(x, y - 10, 20, 12, "strip"),
+}
+# Where the signs of a picture and their words begin.
+ON_PICTURES = {
+    "leads": (0, 26), "up": (70, 96), "down": (124, 150), "start": (195, 208),
+    "crash": (248, 264), "save": (308, 320), "learned": (358, 376),
+}
+# Those of a page, with their words where these are others.
+ON_PAGES = {
+    "leads": "leads", "up": "up", "down": "down", "stopped": "stopped", "unknown": "unknown",
+    "start": "start", "crash": "crash", "votes": "votes at a place", "console": "console",
+}
+
+
 def signs(x, y, is_detailed):
     """The signs on lanes, each with what it means."""
     places = "a place and its value, when the node learns it" if is_detailed else "a learned place"
-    return [
-        svg.line((x, y - 4), (x + 20, y - 4), "leads"), svg.text(x + 26, y, "leads", "said"),
-        svg.line((x + 70, y - 4), (x + 90, y - 4), "up"), svg.text(x + 96, y, "up", "said"),
-        svg.line((x + 124, y - 4), (x + 144, y - 4), "down"), svg.text(x + 150, y, "down", "said"),
-        svg.path(f"M{x + 195} {y - 10}l8 6l-8 6z", "start"), svg.text(x + 208, y, "start", "said"),
-        svg.cross(x + 253, y - 4, 5, "crash"), svg.text(x + 264, y, "crash", "said"),
-        svg.element("circle", cx=x + 312, cy=y - 4, r=3.5, class_="save"),
-        svg.text(x + 320, y, "save", "said"),
-        svg.rect(x + 358, y - 10, 13, 12, "learned", rx=2), svg.text(x + 376, y, places, "said"),
-    ]
+    parts = []
+    for name, (at, words) in ON_PICTURES.items():
+        said = places if name == "learned" else name
+        parts += [SIGNS[name](x + at, y), svg.text(x + words, y, said, "said")]
+    return parts
+
+
+def page_legend():
+    """The same signs for a page, in HTML."""
+    parts = []
+    for name, words in ON_PAGES.items():
+        sign = svg.element("svg", SIGNS[name](1, 10), viewBox="0 0 22 12", aria_hidden="true")
+        parts.append(f"<span>{sign}{svg.escaped(words)}</span>")
+    return "".join(parts)
 
 
 def kinds(x, y):

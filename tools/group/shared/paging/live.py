@@ -75,7 +75,7 @@ class Live:
             return f"{text_of_address(seat.keys)}: {fault.strerror}"
         if is_nobody_there:
             return f"nobody receives at {text_of_address(seat.keys)}"
-        self.table.say("asked", f"{seat.name(at).capitalize()} is asked to lead.")
+        self.table.note_asked(at)
         later = threading.Timer(LED, self.tell_whether_led, [at])
         later.daemon = True
         later.start()

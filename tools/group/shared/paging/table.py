@@ -9,6 +9,7 @@ import time
 
 from ..record import PLACES, text_of_ballot
 from ..screens import Screen
+from ..sitting.seat import Seat
 from ..sitting.session import Session
 from ..terminal import Terminal
 from .clients import Clients
@@ -32,7 +33,9 @@ class Table:
     then `version` has grown."""
 
     def __init__(self, seats, at, is_lf, screen=None):
-        self.session, self.is_lf = Session(seats, at, Counted), is_lf
+        # Without a node of this machine there is a group to be seen, and no session.
+        self.session = Session(seats or [Seat(None, None, None)], at, Counted)
+        self.has_seat, self.is_lf = bool(seats), is_lf
         self.screen = Screen(screen, is_lf) if screen else None
         self.terminal = Terminal(is_lf=is_lf)
         self.decoder = codecs.getincrementaldecoder("utf-8")("replace")
@@ -40,7 +43,8 @@ class Table:
         self.clients, self.keys, self.orders = Clients(), bytearray(), []
         self.marks = Marks()
         self.lanes = [Lane(*it, self.marks) for it in zip(range(len(seats)), seats)]
-        self.others = []  # What supervisors say of nodes whose records are not here.
+        # What supervisors say of the nodes whose records are not here, and of the group.
+        self.others, self.view = [], None
         self.sentences, self.said = collections.deque(maxlen=SENTENCES), 0
         self.group, self.screens, self.held = None, 0, 0
         self.wake, self.typed, self.shot = threading.Event(), -AWAKE, -SHOT
@@ -79,6 +83,13 @@ class Table:
     def go_to(self, at):
         return self.ask(self.session.go_to, at)
 
+    def note_asked(self, at):
+        """Notes that somebody has asked a node to lead."""
+        with self.changed:
+            self.marks.add(at, "asked", "asked")
+            self.note_sentence("asked", f"{self.session.name(at).capitalize()} is asked to lead.")
+            self.changed.notify_all()
+
     def say(self, kind, text):
         with self.changed:
             self.note_sentence(kind, text)
@@ -102,7 +113,7 @@ class Table:
         session.type(keys)
         for done, what, words in orders:
             done.set_result(what(*words))
-        is_new = session.step()
+        is_new = self.has_seat and session.step()
         said, session.said = session.said, []
         data, session.output = bytes(session.output), bytearray()
         is_due = bool(said or orders) or time.monotonic() - self.shot >= SHOT
@@ -145,7 +156,7 @@ class Table:
     def look(self):
         """Brings what is shown of the nodes up to date."""
         session, self.shot = self.session, time.monotonic()
-        leader, count = session.leader(), self.marks.count
+        leader, count = self.leader(), self.marks.count
         for it in self.lanes:
             fresh = session.tally.take_fresh(it.number()) if session.tally else []
             it.look(leader, fresh)
@@ -154,18 +165,40 @@ class Table:
             self.group = group
             self.version += 1
 
+    def leader(self):
+        """The ballot that leads, False if it is known that none does, or None."""
+        leader, view = self.session.leader(), self.view
+        if leader is None and view:
+            return view.leader() or (False if view.leads_nobody() else None)
+        return leader
+
+    def size(self, seen):
+        if self.session.tally:
+            return self.session.tally.size
+        return self.view.size if self.view else seen
+
+    def used(self):
+        """How many places are used, as far as that is seen."""
+        tally, view = self.session.tally, self.view
+        said = [it.places for it in view.states.values() if it.places is not None] if view else []
+        if tally:
+            said.append(tally.used())
+        return max(said, default=None)
+
     def group_now(self, leader):
         """The group for a browser."""
-        session, tally = self.session, self.session.tally
+        session = self.session
         front = max((it.size for it in self.lanes if it.size is not None), default=0)
         nodes = [it.shot(session, front) for it in self.lanes] + self.others
         nodes.sort(key=lambda it: it["node"])
-        size, waiting = tally.size if tally else len(nodes), session.waiting()
+        size, waiting = self.size(len(nodes)), session.waiting()
         leads = f"node {leader.node} leads, ballot {text_of_ballot(leader)}" if leader else None
         return {
             "nodes": nodes, "heading": heading_of(nodes, size, leads, leader is False),
             "is_led": bool(leader), "due": due_of(nodes, size, leader is False),
-            "session": session.number, "used": tally.used() if tally else None, "places": PLACES,
-            "seat": None if session.away else session.at, "name": session.name(),
+            "session": self.view.session if self.view else session.number,
+            "used": self.used(), "places": PLACES,
+            "seat": session.at if self.has_seat and not session.away else None,
+            "name": session.name(),
             "waiting": waiting, "why": session.why_waiting() if waiting else "",
         }

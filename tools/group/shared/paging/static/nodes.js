@@ -15,7 +15,7 @@ async function act(path, at) {
     const why = (await ask(path, { at }))[1];
     if (why) say(why, "bad");
   } catch {
-    say("The page's server does not answer.", "bad");
+    say("The page's server does not answer: look whether it was done, and try again.", "bad");
   }
 }
 
@@ -100,7 +100,7 @@ export function showGroup(told) {
   $("session").textContent = group.session === null ? "" : `session ${group.session}`;
   showUsed();
   const waits = group.waiting ? `${many(group.waiting, "key")} wait${group.waiting === 1 ? "s" : ""}` : "";
-  $("at").textContent = group.seat === null ? "at no node" : `at ${group.name}`;
+  $("at").textContent = group.seat === null ? "at no node of this machine" : `at ${group.name}`;
   $("waits").textContent = waits + (waits && group.why ? `: ${group.why}` : "");
   showDue();
   drawLanes();
@@ -147,23 +147,7 @@ function drawLanes() {
   });
 }
 
-function legend() {
-  const line = (name) => ["line", { x1: 0, x2: 20, y1: 6, y2: 6, class: name }];
-  const signs = { leads: line("leads"), up: line("up"), down: line("down"), stopped: line("stopped"),
-    unknown: line("unknown"), start: ["path", { d: "M7 0l8 6l-8 6z", class: "start" }],
-    crash: ["path", { d: "M6 1l10 10m0-10l-10 10", class: "crash" }],
-    "votes at a place": ["path", { d: "M4 1v9m5-9v9m5-9v9", class: "tick" }],
-    console: ["rect", { x: 0, y: 0, width: 20, height: 12, class: "strip" }] };
-  return Object.entries(signs).map(([name, sign]) => {
-    const svg = draw("svg", { "aria-hidden": "true" }), span = make("span");
-    svg.append(draw(...sign));
-    span.append(svg, name);
-    return span;
-  });
-}
-
 export function beginNodes() {
-  $("legend").replaceChildren(...legend(), make("span", "", "the last minute"));
   setInterval(() => group && !document.hidden && drawLanes(), 1000);
   addEventListener("resize", () => group && drawLanes());
 }
