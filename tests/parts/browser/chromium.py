@@ -97,6 +97,8 @@ class Tab:
             features = [{"name": name.replace("_", "-"), "value": it} for name, it in look.items()]
             self.call("Emulation.setEmulatedMedia", features=features)
         self.call("Page.navigate", url=address)
+        self.await_that("document.readyState === 'complete' && location.href !== 'about:blank'",
+                        "the page is loaded")
 
     def call(self, method, **words):
         return self.browser.call(method, self.session, **words)

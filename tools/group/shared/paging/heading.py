@@ -46,9 +46,11 @@ def due_of(nodes, size, is_nobody):
 
 def best_of(nodes):
     """The node that knows the greatest ballot: the one of another may be refused. Of several it is
-    the one whose console is longest."""
+    the one whose console is longest, and of these the one that has run longest: one that has just
+    begun has to hear again what was chosen."""
     able = [it for it in nodes if it.get("can_lead")]
-    return max(able, default=None, key=lambda it: (ballot_in(it), it["bytes"] or 0, -it["node"]))
+    return max(able, default=None, key=lambda it: (
+        ballot_in(it), it["bytes"] or 0, -it["began"], -it["node"]))
 
 
 def ballot_in(node):

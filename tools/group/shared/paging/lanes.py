@@ -111,7 +111,7 @@ class Lane:
             self.marks.add(self.at, "start", "moves again")
         self.marks.add(self.at, "span", word)
         if before and word == "leads":
-            self.marks.add(self.at, "leads", f"leads {text_of_ballot(self.seat.may_lead())}")
+            self.marks.add(self.at, "leads", text_of_ballot(self.seat.may_lead()))
 
     def note_record(self, fresh, word):
         record = self.seat.record()
@@ -177,6 +177,7 @@ class Lane:
         return {
             "node": number, "at": self.at, "state": self.word, "lag": self.lag(front),
             "pid": seat.process[0] if seat.process and self.word != "down" else None,
+            "began": int(seat.process[1]) if seat.process else 0,
             "promised": text_of_ballot(record.promised) if record else None,
             "starts": record.starts if record else None,
             "votes": tally.taken.get(number, 0) if tally and record else None,

@@ -69,13 +69,13 @@ class Live:
             return f"where the keys of {seat.name(at)} come is not known here"
         for why in refusals_at(seat.keys):
             return f"{seat.name(at)} is not asked: {why}"
+        self.table.note_asked(at)
         try:
             is_nobody_there = ask(seat.keys, 0.05)
         except OSError as fault:
             return f"{text_of_address(seat.keys)}: {fault.strerror}"
         if is_nobody_there:
             return f"nobody receives at {text_of_address(seat.keys)}"
-        self.table.note_asked(at)
         later = threading.Timer(LED, self.tell_whether_led, [at])
         later.daemon = True
         later.start()

@@ -17,9 +17,9 @@ from .counts import Counted
 from .heading import due_of, heading_of
 from .lanes import Lane, Marks, now
 
-# How often the session looks, in seconds: for some time after a key, while keys wait, and else; and
-# how often it looks at more than the console then.
-SOON, LATE, AWAKE, LOOK = 0.002, 0.02, 0.5, 0.1
+# How often the session looks, in seconds: for some time after a key, while keys wait, and at the
+# console alone else; and how often it looks at more than that then.
+SOON, LATE, AWAKE, REST, LOOK = 0.002, 0.02, 0.5, 0.04, 0.15
 # How often the nodes are shown anew, at most.
 SHOT = 0.1
 # How many bytes of keys may wait here, and how many sentences are kept.
@@ -135,7 +135,7 @@ class Table:
             return
         until, seat = time.monotonic() + LOOK, self.session.seat()
         size = seat.size()
-        while not self.wake.wait(LATE) and time.monotonic() < until and seat.size() == size:
+        while not self.wake.wait(REST) and time.monotonic() < until and seat.size() == size:
             pass
 
     def note(self, data, said):

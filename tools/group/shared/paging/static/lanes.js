@@ -4,7 +4,7 @@ import { draw } from "./look.js";
 
 export const SECONDS = 60;
 const STRIP = 14, WORD = 5.6, KEPT = 400;
-const FLAGS = { campaign: (it) => `campaigns ${it}`, asked: () => "asked", leads: (it) => it };
+const FLAGS = { campaign: (it) => `campaigns ${it}`, asked: () => "asked", leads: (it) => `leads ${it}` };
 
 export class Lane {
   constructor(svg) {
@@ -65,7 +65,7 @@ export class Lane {
       const word = FLAGS[kind]?.(text), wide = word && word.length * WORD;
       const begin = word && Math.max(Math.min(x, this.right - wide), flagEnd);
       // Words for which there is no room near their moment are left out.
-      if (!word || begin - x > 40 || begin + wide > this.right + 4) continue;
+      if (!word || begin < 0 || begin - x > 40 || begin + wide > this.right + 4) continue;
       parts.push(draw("text", { x: begin, y: this.y - 8, class: `flag ${kind}` }, word));
       flagEnd = begin + wide + 6;
     }

@@ -10,7 +10,8 @@ const SILENT = 15000;
 let stream = null, broken = 0, later = 0, heard = Date.now();
 
 const TOLD = {
-  start: (it) => it, crash: (it) => it, held: (it) => it, log: (it) => it, leads: (it) => it,
+  start: (it) => it, crash: (it) => it, held: (it) => it, log: (it) => it,
+  leads: (it) => `leads, under ballot ${it}`,
   campaign: (it) => `asks to lead, under ballot ${it}`,
 };
 
