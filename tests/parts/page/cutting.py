@@ -6,10 +6,11 @@ import threading
 
 
 class Cutting:
-    """Passes bytes on, and cuts some connections before, within or behind what it passes."""
+    """Passes bytes on, and cuts some connections before, within or behind what it passes: this
+    share of the times when something passes."""
 
-    def __init__(self, port, draw):
-        self.to, self.draw = port, draw
+    def __init__(self, port, draw, share=0.08):
+        self.to, self.draw, self.share = port, draw, share
         self.is_cutting, self.is_over, self.cuts = False, False, 0
         self.listener = socket.create_server(("127.0.0.1", 0))
         self.port = self.listener.getsockname()[1]
@@ -45,7 +46,7 @@ class Cutting:
             if not data or self.is_over:
                 return False
             to = other if it is one else one
-            if self.is_cutting and self.draw.random() < 0.08:
+            if self.is_cutting and self.draw.random() < self.share:
                 self.cuts += 1
                 to.sendall(data[: self.draw.randrange(len(data) + 1)])
                 return False
