@@ -41,7 +41,10 @@ CONTRASTS = r"""
 """
 
 
-def check_names(tab, what):
+ROLES = ("banner", "main", "heading", "log", "status", "region")
+
+
+def check_names(tab, what, wanted=ROLES):
     tree = tab.call("Accessibility.getFullAXTree")["nodes"]
     shown = [it for it in tree if not it.get("ignored")]
     roles = [(it["role"]["value"], it.get("name", {}).get("value", "")) for it in shown]
@@ -50,7 +53,7 @@ def check_names(tab, what):
     expect(f"{what}: all of {active} things that can be done have names", not nameless and active,
            nameless)
     there = {it[0] for it in roles}
-    for role in ("banner", "main", "heading", "log", "status", "region"):
+    for role in wanted:
         expect(f"{what}: there is the role {role}", role in there, sorted(there))
     found = [it[1] for it in roles if it[0] in ACTIVE]
     twice = {it for it in found if found.count(it) > 1}

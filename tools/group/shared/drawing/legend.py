@@ -57,11 +57,12 @@ ON_PICTURES = {
     "leads": (0, 26), "up": (70, 96), "down": (124, 150), "start": (195, 208),
     "crash": (248, 264), "save": (308, 320), "learned": (358, 376),
 }
-# Those of a page, with their words where these are others.
+# Those of the two kinds of pages.
 ON_PAGES = {
-    "leads": "leads", "up": "up", "down": "down", "stopped": "stopped", "unknown": "unknown",
-    "start": "start", "crash": "crash", "votes": "votes at a place", "console": "console",
+    "live": ("leads", "up", "down", "stopped", "unknown", "start", "crash", "votes", "console"),
+    "past": ("leads", "up", "down", "start", "crash", "save"),
 }
+WORDS = {"votes": "votes at a place"}
 
 
 def signs(x, y, is_detailed):
@@ -74,12 +75,12 @@ def signs(x, y, is_detailed):
     return parts
 
 
-def page_legend():
+def page_legend(kind):
     """The same signs for a page, in HTML."""
     parts = []
-    for name, words in ON_PAGES.items():
+    for name in ON_PAGES[kind]:
         sign = svg.element("svg", SIGNS[name](1, 10), viewBox="0 0 22 12", aria_hidden="true")
-        parts.append(f"<span>{sign}{svg.escaped(words)}</span>")
+        parts.append(f"<span>{sign}{WORDS.get(name, name)}</span>")
     return "".join(parts)
 
 

@@ -23,10 +23,10 @@ STATES = {"up": "up", "held": "stopped", "down": "down", None: "unknown"}
 MOST = 1 << 16
 
 
-def is_list(path):
-    """Whether a file has the words of a supervisor."""
+def is_list(paths):
+    """Whether there is a first file that has the words of a supervisor."""
     try:
-        with open(path, "rb") as file:
+        with open((paths or [os.devnull])[0], "rb") as file:
             data = file.read(MOST)
     except OSError:
         return False

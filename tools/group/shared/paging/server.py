@@ -31,14 +31,14 @@ SLOW = 10.0
 
 
 class Server(http.server.ThreadingHTTPServer):
-    """`gets` and `posts` have a function for each path. It gets the handler and what was asked: the
-    words of a GET, or the JSON of a POST, of which it returns the answer."""
+    """The `gets` and `posts` of a site have a function for each path, which answers: it gets the
+    handler, and of a GET who asks and the words, of a POST its JSON."""
 
     daemon_threads = True
     request_queue_size = 64
 
-    def __init__(self, address, guard, files, gets, posts, context=None):
-        self.guard, self.files, self.gets, self.posts = guard, files, gets, posts
+    def __init__(self, address, guard, files, site, context=None):
+        self.guard, self.files, self.gets, self.posts = guard, files, site.gets, site.posts
         self.context = context
         self.streams = threading.Semaphore(STREAMS)
         self.connections = threading.Semaphore(CONNECTIONS)

@@ -1,7 +1,9 @@
 // Keys: one request at a time, with all that was typed meanwhile, so that their order stays. A
 // request that may have been lost is repeated with its number, and types nothing twice.
+import { ask } from "./enter.js";
 import { $ } from "./look.js";
 import { say } from "./said.js";
+import { followCursor } from "./screen.js";
 
 const MOST = 1000, PASTED = 16000, TWICE = 3000;
 let queue = "", client = "", number = 0, isSending = false, role = "watch", isLf = false, broke = 0;
@@ -16,14 +18,6 @@ const NAMES = {
 };
 const enter = () => (isLf ? "\n" : "\r");
 const wait = (time) => new Promise((done) => setTimeout(done, time));
-
-export async function ask(path, what) {
-  const answer = await fetch(path, {
-    method: "POST", body: JSON.stringify(what), credentials: "same-origin",
-    headers: { "Content-Type": "application/json" },
-  });
-  return [answer.status, (await answer.json()).text];
-}
 
 // What the server calls this browser. With a new name what was on its way is given up, as nobody
 // can tell whether it has come.
@@ -43,7 +37,7 @@ function giveUp(why) {
 export function type(text) {
   if (role !== "type") return say("You watch: keys are for those who have the other address.", "bad");
   queue += text;
-  $("view").scrollTop = $("view").scrollHeight;
+  followCursor();
   if (!isSending) sendAll();
 }
 

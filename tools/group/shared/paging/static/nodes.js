@@ -1,8 +1,10 @@
 // The nodes: a card and a lane for each, and what a person can do about the group.
 import { $, draw, make, many } from "./look.js";
 import { say, serverNow } from "./said.js";
-import { ask, focusKeys } from "./keys.js";
+import { ask } from "./enter.js";
+import { focusKeys } from "./keys.js";
 import { Lane } from "./lanes.js";
+import { followCursor } from "./screen.js";
 
 const FEW = 5;
 const STATES = { up: "runs", leads: "leads", down: "does not run", stopped: "is stopped",
@@ -127,7 +129,7 @@ function showDue() {
   button.hidden = due.at === null || role !== "type";
   button.textContent = due.at === null ? "" : `Ask node ${due.node} to lead`;
   button.onclick = () => act("/lead", due.at);
-  if (had) $("view").scrollTop = $("view").scrollHeight;
+  if (had) followCursor();
 }
 
 // F6: to the first thing that can be done about the nodes.

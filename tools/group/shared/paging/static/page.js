@@ -3,7 +3,8 @@
 import { $, beginTheme } from "./look.js";
 import { clearSaid, list, say, setAhead } from "./said.js";
 import { beginScreen, clearScreen, showScreen } from "./screen.js";
-import { ask, beginKeys, focusKeys, knownAs, myName } from "./keys.js";
+import { enter } from "./enter.js";
+import { beginKeys, focusKeys, knownAs, myName } from "./keys.js";
 import { beginNodes, clearLanes, leave, note, showGroup } from "./nodes.js";
 
 const SILENT = 15000;
@@ -73,18 +74,13 @@ async function again() {
   connect();
 }
 
-// The token stands behind the # of the address, which no request has in it.
 async function begin() {
   beginTheme();
   beginScreen();
   beginKeys();
   beginNodes();
-  const token = location.hash.slice(1);
-  history.replaceState(null, "", "/");
-  if (token) {
-    const [status, why] = await ask("/enter", { token });
-    if (status !== 200) return say(why, "bad");
-  }
+  const why = await enter();
+  if (why) return say(why, "bad");
   await again();
 }
 

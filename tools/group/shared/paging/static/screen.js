@@ -3,9 +3,10 @@
 import { $, make } from "./look.js";
 
 const ROWS = 24, COLUMNS = 80, HISTORY = 2000, WIDE = 820;
-let rows = [], cursor = [0, 0], isFit = false;
+let rows = [], cursor = [0, 0], isFit = false, followed = 0;
 
 export function clearScreen() {
+  cursor = [0, 0];
   rows = Array.from({ length: ROWS }, () => Object.assign(make("div"), { text: "", looks: "" }));
   $("screen").replaceChildren(...rows);
   $("read").replaceChildren();
@@ -36,8 +37,7 @@ function oldRow([text, looks]) {
 }
 
 export function showScreen([above, changed, y, x, isHidden]) {
-  const view = $("view"), pre = $("screen");
-  const isAtEnd = view.scrollHeight - view.scrollTop - view.clientHeight < 40;
+  const view = $("view"), pre = $("screen"), isFollowing = Math.abs(view.scrollTop - followed) < 40;
   const old = above.map(oldRow);
   rows[0].before(...old);
   for (let left = pre.children.length - ROWS - HISTORY; left > 0; left--) pre.firstChild.remove();
@@ -51,8 +51,7 @@ export function showScreen([above, changed, y, x, isHidden]) {
     readOut([...old, ...changed.filter((it) => it[0] !== y).map((it) => rows[it[0]])]);
   }
   cursor = [y, x];
-  if (isAtEnd) view.scrollTop = view.scrollHeight;
-  followCursor();
+  if (isFollowing) followCursor();
 }
 
 function readOut(lines) {
@@ -62,9 +61,13 @@ function readOut(lines) {
   while (box.children.length > 24) box.firstChild.remove();
 }
 
-// Keeps the cursor seen if the screen is wider than the view.
-function followCursor() {
-  const view = $("view");
+// Keeps the cursor seen: the screen's first line stays at the top as long as there is room.
+export function followCursor() {
+  const view = $("view"), top = view.getBoundingClientRect().top - view.scrollTop;
+  const first = rows[0].getBoundingClientRect().top - top - 10;
+  const end = rows[cursor[0]].getBoundingClientRect().bottom - top + 10;
+  view.scrollTop = Math.max(first, end - view.clientHeight);
+  followed = view.scrollTop;
   if (view.scrollWidth <= view.clientWidth) return;
   const x = cursor[1] * ($("screen").scrollWidth / COLUMNS), room = view.clientWidth - 30;
   if (x > view.scrollLeft + room) view.scrollLeft = x - room * 0.7;
@@ -83,6 +86,7 @@ export function fitScreen() {
   $("screen").style.minWidth = `${full.toFixed(1)}px`;
   const left = isWide ? `${Math.ceil(full) + 44}px` : "100%";
   document.documentElement.style.setProperty("--left", left);
+  followCursor();
 }
 
 export function beginScreen() {
