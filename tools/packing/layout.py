@@ -19,10 +19,11 @@ SCRIPTS = [*manual.SCRIPTS, "console"]
 # The compiler and the assembler: what is called, and the folders that they need.
 COMPILERS = ("assemble", "compile", "files", "volume")
 COMPILER_FILES = ("assembler/**/*", "compiler/**/*", "pcode/**/*", "volumes/**/*")
+UNITS = ("pgroup@.service", "pgroup-page@.service")
 # The pages and pictures, with all pages that they link to. Their other links, to sources, tests and
 # scripts, lead into the repository alone.
 PAGES = (
-    "README.md", "CHANGELOG.md", "docs/*.md", "docs/pictures/*.svg", "bench/RESULTS.md",
+    "README.md", "CHANGELOG.md", "docs/*.md", "docs/pictures/*", "bench/RESULTS.md",
     "tests/cases/README.md",
 )
 # The examples that need nothing else of the repository.
@@ -118,8 +119,8 @@ def put_all(folder, program):
     put_compilers(tree)
     put_docs(tree)
     tree.write("share/doc/pgroup/version", lines_of_version(program))
-    unit = os.path.join(manual.GROUP, "pgroup@.service")
-    tree.copy(unit, "lib/systemd/system/pgroup@.service")
+    for unit in UNITS:
+        tree.copy(os.path.join(manual.GROUP, unit), f"lib/systemd/system/{unit}")
 
 
 def settle(folder, seconds):

@@ -3,7 +3,7 @@
 import os
 import time
 
-from ..asking.command import take_file
+from ..asking.command import words_in
 from ..asking.questions import states_of
 from ..asking.view import View
 from ..ends import with_end
@@ -33,25 +33,25 @@ def is_list(paths):
     return b"\0" not in data and b"--beats" in data
 
 
-class Asked:
-    """The words of `status --group` that a list gives."""
-
-    def __init__(self, path):
-        self.group, self.beats, self.session, self.beats_key = path, None, None, None
-        take_file(self)
-        if self.beats is None or self.session is None:
-            raise Refused(f"{path}: it says no --beats, or no --session")
+def asked_of(path):
+    """The words of a list: whom to ask about which session."""
+    words = words_in(path)
+    if words.beats is None or words.session is None:
+        raise Refused(f"{path}: it says no --beats, or no --session")
+    return words
 
 
-def seats_of(session):
-    """The nodes of a session that run on this machine, in the order of their numbers."""
-    found = []
-    for pid, words in node_processes().items():
+def seats_of(asked):
+    """The nodes of a session on this machine: that of the list, if its record is here, and those
+    that run."""
+    found = [asked.record] if asked.record and os.path.exists(asked.record) else []
+    for pid, words in sorted(node_processes().items()):
         plain, record = plain_words(words), record_word(words)
         folder = link_of(f"/proc/{pid}/cwd")
-        if record and plain[3] == str(session) and (folder or os.path.isabs(record)):
-            found.append((plain[1], os.path.join(folder or "/", record)))
-    return [Seat(path, None, None) for _, path in sorted(found)]
+        if record and plain[3] == str(asked.session) and (folder or os.path.isabs(record)):
+            found.append(os.path.join(folder or "/", record))
+    paths = dict.fromkeys(map(os.path.realpath, found))
+    return [Seat(path, None, None) for path in paths]
 
 
 class Elsewhere:
