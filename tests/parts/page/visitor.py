@@ -50,10 +50,10 @@ class Page(Running):
         self.errors.close()
 
 
-def answer_to(port, data, seconds=SECONDS):
+def answer_to(port, data, seconds=SECONDS, host="127.0.0.1"):
     """The status and the whole answer to these bytes, or None where the connection is ended without
     an answer."""
-    with socket.create_connection(("127.0.0.1", port), seconds) as it:
+    with socket.create_connection((host, port), seconds) as it:
         try:
             it.sendall(data)
             it.shutdown(socket.SHUT_WR)

@@ -9,7 +9,6 @@ from ..drawing.scene import HEARD, LATER, shown_characters
 from ..drawing.traced import scene_of_traces
 from ..files import Refused
 from ..record import text_of_ballot
-from ..replica.datagram import text_of_message
 from ..replica.following import Differs
 from ..replica.trace import Bad, is_trace
 from ..terminal import Terminal
@@ -115,7 +114,8 @@ class Past:
         return "; ".join([text, *more])
 
     def message(self, number):
-        return text_of_message(self.scene.group.sent[number].message).split("\n")[0]
+        message = self.scene.group.sent[number].message
+        return f"{label_of(message)} (from node {message.sender})"
 
     # For a browser.
 
