@@ -44,7 +44,7 @@ def check_bodies(page, visitor, words):
         due = (*DUE, 403) if path == "/enter" else DUE
         if status not in due or not isinstance(answer.get("text"), str):
             # A node may be named by chance.
-            if not (path in ("/lead", "/go") and b'"at": ' in data):
+            if not (path in ("/lead", "/go") and b'"at"' in data):
                 wrong.append((path, data[:200], status, answer))
     expect(f"{words.bodies} bodies that are no requests are refused", not wrong, *wrong[:5])
     expect("none of them has typed a key", visitor.group["waiting"] == before, visitor.group)

@@ -26,9 +26,16 @@ def add_words(add):
     add("--metrics", action="store_true", help="prints it as a text of metrics for Prometheus")
 
 
+class Words(argparse.ArgumentParser):
+    """A parser of words that nobody has typed just now: it ends nothing."""
+
+    def error(self, message):
+        raise ValueError(message)
+
+
 def words_in(path):
     """What a file of a supervisor's words says of the group, and of its own node's record."""
-    found = argparse.ArgumentParser(add_help=False, allow_abbrev=False, exit_on_error=False)
+    found = Words(add_help=False, allow_abbrev=False)
     found.add_argument("--beats", type=address_of, nargs="+")
     found.add_argument("--session", type=int)
     found.add_argument("--beats-key")
@@ -41,7 +48,7 @@ def words_in(path):
     except OSError as fault:
         fault.filename = path
         raise Refused(text_of_fault(fault))
-    except (ValueError, argparse.ArgumentError) as fault:
+    except ValueError as fault:
         raise Refused(f"{path}: {fault}")
 
 
