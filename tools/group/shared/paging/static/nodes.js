@@ -67,6 +67,7 @@ function showCard(node) {
   it.box.setAttribute("aria-label", `${name} ${word}`);
   it.name.textContent = name;
   it.state.textContent = word + lag;
+  it.state.title = node.pid ? `process ${node.pid}` : "";
   it.here.hidden = node.at !== group.seat;
   it.few.textContent = node.fault || `${node.promised || "-"} · ${many(node.votes ?? 0, "vote")}`;
   it.lead.hidden = it.go.hidden = role !== "type";

@@ -79,9 +79,10 @@ async function begin() {
   beginScreen();
   beginKeys();
   beginNodes();
-  const why = await enter();
+  const had = location.hash !== "", why = await enter();
   if (why) return say(why, "bad");
-  await again();
+  if (had) connect();
+  else await again();
 }
 
 addEventListener("keydown", (it) => {
