@@ -10,8 +10,8 @@ from ..ends import Log, with_end
 from ..record import text_of_ballot
 from ..watch import file_of, state_of
 
-# How many marks are kept; the most characters of one, and of a console's end; lines of a log.
-MARKS, TEXT, END, LINES = 4000, 200, 90, 3
+# How many marks are kept; the most characters of one, and of a console's end.
+MARKS, TEXT, END = 4000, 200, 90
 # How often a node's log is looked at, and after how long without growth a shorter console is
 # behind, in seconds.
 READ, STILL = 0.5, 1.0

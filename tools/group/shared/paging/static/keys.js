@@ -35,7 +35,9 @@ function giveUp(why) {
 }
 
 export function type(text) {
-  if (role !== "type") return say("You watch: keys are for those who have the other address.", "bad");
+  if (role !== "type") {
+    return say("You watch: keys are for those who have the other address.", "bad");
+  }
   queue += text;
   followCursor();
   if (!isSending) sendAll();
@@ -83,7 +85,7 @@ function control(it) {
   if (key === "v" || it.shiftKey || (key === "c" && !getSelection().isCollapsed)) return;
   it.preventDefault();
   if (key === "c") breakIn();
-  else if (/[a-z[\]\\^_@ ]/.test(key)) type(String.fromCharCode(it.key.toUpperCase().charCodeAt(0) & 31));
+  else if (/[a-z[\]\\^_@ ]/.test(key)) type(String.fromCharCode(key.charCodeAt(0) & 31));
 }
 
 function pressed(it) {

@@ -4,7 +4,9 @@ import { draw } from "./look.js";
 
 export const SECONDS = 60;
 const STRIP = 14, WORD = 5.6, KEPT = 400;
-const FLAGS = { campaign: (it) => `campaigns ${it}`, asked: () => "asked", leads: (it) => `leads ${it}` };
+const FLAGS = {
+  campaign: (it) => `campaigns ${it}`, asked: () => "asked", leads: (it) => `leads ${it}`,
+};
 
 export class Lane {
   constructor(svg) {
@@ -86,7 +88,7 @@ export class Lane {
   console() {
     const room = Math.floor((this.right - 4) / 6.03), end = this.shown || "";
     const word = end.length <= room ? end : `…${end.slice(end.length - room + 1)}`;
-    const place = { x: this.right, y: this.base + STRIP - 4, class: "console", "text-anchor": "end" };
-    return draw("text", place, word);
+    const y = this.base + STRIP - 4;
+    return draw("text", { x: this.right, y, class: "console", "text-anchor": "end" }, word);
   }
 }

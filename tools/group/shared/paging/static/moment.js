@@ -71,8 +71,11 @@ export class Scene {
     const line = draw("line", { x1, y1, x2, y2, class: name });
     line.append(draw("title", {}, `${it.text}, to node ${it.to}, ${it.fate}`));
     const parts = [line];
-    if (it.fate === "lost") parts.push(draw("path", { d: cross(x2, y2, 4), class: `${name} lost` }));
-    else if (it.fate === "heard") parts.push(draw("circle", { cx: x2, cy: y2, r: 3, class: `h ${it.kind}` }));
+    if (it.fate === "lost") {
+      parts.push(draw("path", { d: cross(x2, y2, 4), class: `${name} lost` }));
+    } else if (it.fate === "heard") {
+      parts.push(draw("circle", { cx: x2, cy: y2, r: 3, class: `h ${it.kind}` }));
+    }
     if (isMine) {
       const [x, y] = [x1 + (x2 - x1) * 0.35 + 6, y1 + (y2 - y1) * 0.35 - 3];
       parts.push(draw("text", { x, y, class: `label ${it.kind}` }, it.text));
@@ -84,7 +87,8 @@ export class Scene {
     const above = new Map(), below = new Map();
     return this.part.marks.flatMap(([kind, node, column, text]) => {
       const x = this.x(column), y = this.y(node);
-      if (kind === "start") return [draw("path", { d: `M${x} ${y - 6}l8 6l-8 6z`, class: "start" })];
+      const triangle = `M${x} ${y - 6}l8 6l-8 6z`;
+      if (kind === "start") return [draw("path", { d: triangle, class: "start" })];
       if (kind === "crash") return [draw("path", { d: cross(x, y, 6), class: "crash" })];
       if (SAVES[kind]) return [draw("circle", { cx: x, cy: y, r: 3.5, class: SAVES[kind] })];
       const isAbove = kind !== "learned";

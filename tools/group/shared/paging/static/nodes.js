@@ -60,7 +60,8 @@ function fact(name, value) {
 }
 
 function showCard(node) {
-  const it = cardOf(node.at), name = `node ${node.node}`, runs = ["up", "leads"].includes(node.state);
+  const it = cardOf(node.at), name = `node ${node.node}`;
+  const runs = ["up", "leads"].includes(node.state);
   const lag = runs && node.lag ? `, behind by ${many(node.lag, "byte")}` : "";
   const word = node.state === "up" && group.is_led ? "follows" : STATES[node.state];
   it.box.className = `node ${node.state}`;
@@ -83,7 +84,7 @@ function showCard(node) {
 
 function facts(node) {
   const parts = [fact("promised", node.promised || "unknown")];
-  if (node.votes !== null && node.votes !== undefined) parts.push(fact("votes", node.votes.toLocaleString("en")));
+  if (node.votes !== null) parts.push(fact("votes", node.votes.toLocaleString("en")));
   if (node.starts !== null) parts.push(fact("starts", node.starts));
   parts.push(fact("shows", node.bytes === null ? "unknown" : many(node.bytes, "byte")));
   if (node.pid) parts.push(fact("process", node.pid));
@@ -102,7 +103,8 @@ export function showGroup(told) {
   $("heading").className = group.is_led ? "" : "bad";
   $("session").textContent = group.session === null ? "" : `session ${group.session}`;
   showUsed();
-  const waits = group.waiting ? `${many(group.waiting, "key")} wait${group.waiting === 1 ? "s" : ""}` : "";
+  const verb = group.waiting === 1 ? "waits" : "wait";
+  const waits = group.waiting ? `${many(group.waiting, "key")} ${verb}` : "";
   $("at").textContent = group.seat === null ? "at no node of this machine" : `at ${group.name}`;
   $("waits").textContent = waits + (waits && group.why ? `: ${group.why}` : "");
   showDue();
@@ -112,7 +114,7 @@ export function showGroup(told) {
 function showUsed() {
   const of = group.places.toLocaleString("en"), used = group.used;
   $("used").hidden = used === null;
-  $("used").firstChild.textContent = used === null ? "" : `${used.toLocaleString("en")} of ${of} places`;
+  $("used").firstChild.textContent = `${(used ?? 0).toLocaleString("en")} of ${of} places`;
   $("used").querySelector("b").style.width = `${(100 * (used || 0)) / group.places}%`;
   $("used").classList.toggle("full", used > 0.9 * group.places);
 }

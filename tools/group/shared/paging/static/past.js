@@ -28,7 +28,7 @@ async function go(at) {
   isAsking = false;
 }
 
-const when = (time) => (time === null ? "" : new Date(time).toISOString().replace("T", " ").slice(0, 23));
+const when = (time) => new Date(time).toISOString().replace("T", " ").slice(0, 23);
 
 function show() {
   $("where").textContent = `moment ${(part.at + 1).toLocaleString("en")} of ` +
@@ -78,7 +78,8 @@ function showWhole() {
   const wide = $("whole").clientWidth, high = ROW * run.nodes.length + 6;
   const x = (at) => 8 + (at / Math.max(1, run.moments - 1)) * (wide - 16);
   const y = (node) => 8 + ROW * run.nodes.indexOf(node);
-  const svg = draw("svg", { width: wide, height: high, role: "img", "aria-label": "The whole run" });
+  const svg = draw("svg", { width: wide, height: high, role: "img" });
+  svg.setAttribute("aria-label", "The whole run");
   for (const [node, begin, end, leads] of run.spans) {
     svg.append(draw("line", { x1: x(begin), x2: Math.max(x(begin) + 1, x(end)), y1: y(node),
       y2: y(node), class: leads ? "leads thin" : "up" }));
@@ -133,14 +134,14 @@ async function begin() {
 
 // The arrows lead on wherever the focus is; F6 goes from part to part.
 function keyed(it) {
+  const here = document.activeElement, far = { ArrowLeft: -1, ArrowRight: 1 }[it.key];
   if (it.key === "F6") {
     it.preventDefault();
     const order = [$("moment"), $("scene"), $("events")];
-    const at = order.findIndex((one) => one === document.activeElement || one.contains(document.activeElement));
-    order[(at + 1) % order.length].focus();
-  } else if (document.activeElement === $("scene") && (it.key === "ArrowLeft" || it.key === "ArrowRight")) {
+    order[(order.findIndex((one) => one.contains(here)) + 1) % order.length].focus();
+  } else if (here === $("scene") && far) {
     it.preventDefault();
-    go(wanted + (it.key === "ArrowLeft" ? -1 : 1));
+    go(wanted + far);
   }
 }
 
