@@ -4,7 +4,7 @@ import select
 import socket
 import time
 
-from ..checks import expect
+from ..checks import expect, passed
 from ..program import Broken
 from .hostile import Maker
 
@@ -89,6 +89,28 @@ def check_slow(page, visitor):
     for it in sockets.values():
         it.close()
     expect(f"{len(slow)} slow connections are ended", not left, left)
+
+
+def check_unread(page, visitor):
+    """A stream that nobody reads is ended, and does not hold up the others."""
+    it = socket.socket()
+    it.setsockopt(socket.SOL_SOCKET, socket.SO_RCVBUF, 4096)
+    it.connect(("127.0.0.1", page.port))
+    it.sendall(Maker(page, visitor, visitor).get())
+    for number in range(60):
+        visitor.press(f"{number:04}" * 200 + "\n")
+    visitor.await_that(lambda: "0059" in visitor.text(), "another one is shown all")
+
+    def is_ended():
+        try:
+            it.send(b".")
+        except OSError:
+            return True
+        return False
+
+    await_all(is_ended, "the stream that is not read is ended")
+    it.close()
+    passed("a stream that is not read is ended, and others go on")
 
 
 def is_over(it):

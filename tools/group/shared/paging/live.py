@@ -2,6 +2,7 @@
 for."""
 
 import json
+import socket
 import threading
 import time
 
@@ -12,8 +13,9 @@ from .lanes import now
 from .refusals import why_not_led
 from .server import HEADERS, STREAMS, Handler
 
-# The most bytes of keys in a request, and lines above the screen with which a browser begins.
-KEYS, BEGIN = 4096, 500
+# The most bytes of keys in a request, lines above the screen with which a browser begins, and bytes
+# that wait until a browser reads them.
+KEYS, BEGIN, UNREAD = 4096, 500, 1 << 15
 # Seconds until a stream says that it is there, and until it is looked whether a node leads that was
 # asked.
 BEAT, LED = 5.0, 2.0
@@ -96,6 +98,8 @@ class Live:
             client = self.table.clients.enter(words.get("client"))
         try:
             handler.close_connection = True
+            # What a browser does not read is kept here, up to this.
+            handler.connection.setsockopt(socket.SOL_SOCKET, socket.SO_SNDBUF, UNREAD)
             handler.send_response(200)
             handler.send_header("Content-Type", "text/event-stream; charset=utf-8")
             for name, value in {**HEADERS, "Connection": "close"}.items():
