@@ -42,6 +42,10 @@ function noteMarks([time, marks]) {
 }
 
 function connect() {
+  // There is one stream at a time: what comes by two would be shown twice.
+  stream?.close();
+  clearTimeout(later);
+  heard = Date.now();
   stream = new EventSource(`/events?client=${encodeURIComponent(myName())}`);
   const on = (kind, does) => stream.addEventListener(kind, (it) => {
     heard = Date.now();
