@@ -169,7 +169,7 @@ def lose(group, session, kill):
     kill(found[0])
 
 
-def play_kills(group, sessions, kill, words):
+def play_kills(group, sessions, kill, words, pauses=(2, 3.5)):
     """Kills the node of the first session so often, while keys are typed at all, and checks what
     was shown and named. `kill` kills a node, which is started again by itself. Each session types
     characters of its own."""
@@ -181,7 +181,7 @@ def play_kills(group, sessions, kill, words):
         for _ in range(words.kills):
             # Keys are typed also while the node is being lost.
             killed = beside.submit(lose, group, sessions[0], kill)
-            together(typists, draw.uniform(2, 3.5))
+            together(typists, draw.uniform(*pauses))
             killed.result()
     settled(group, typists)
     # What was lost is named some time after the last move, and what waits to be typed comes.

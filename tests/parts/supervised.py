@@ -25,9 +25,10 @@ def send_signal(pid, number):
 
 
 class Supervised(Running):
-    """A node of the echo under a supervisor, and their files in a folder."""
+    """A node of the echo, or another program, under a supervisor, and their files in a folder."""
 
-    def __init__(self, number, folder, nodes, beats, keys, silent=3.0, around=(), disk=None):
+    def __init__(self, number, folder, nodes, beats, keys, silent=3.0, around=(), disk=None,
+                 code=ECHO):
         """`nodes` and `beats` have the addresses of the group, in order, and `keys` is the node's
         own. `around` are words that come before each command, such as those that lead it into a
         namespace. The record and the console are in the folder `disk`, if it is given."""
@@ -39,8 +40,8 @@ class Supervised(Running):
         self.errors = os.path.join(folder, f"errors{number}")
         # How much of what they say was read, and how many starts of the node that has.
         self.read = self.started = 0
-        lines = f"--file {ECHO}  # the echo\n--id {number} --size {len(nodes)}\n"
-        lines += f"--session {session_of(ECHO)} --silent {silent}\n--program {PROGRAM}\n"
+        lines = f"--file {code}  # the program\n--id {number} --size {len(nodes)}\n"
+        lines += f"--session {session_of(code)} --silent {silent}\n--program {PROGRAM}\n"
         lines += f"--record {self.record}\n--console {self.console}\n"
         lines += f"--nodes {' '.join(text_of_address(it) for it in nodes)}\n"
         lines += f"--beats {' '.join(text_of_address(it) for it in beats)}\n"
@@ -127,11 +128,11 @@ def last_leader(group):
     return group[number - 1]
 
 
-def group_of(size, folder, silent=3.0, disk=None):
+def group_of(size, folder, silent=3.0, disk=None, code=ECHO):
     """Returns the nodes of a group of this size on this machine, none of them started."""
     addresses = free_addresses(3 * size)
     nodes, beats, keys = addresses[:size], addresses[size : 2 * size], addresses[2 * size :]
     return [
-        Supervised(it, folder, nodes, beats, keys[it - 1], silent, disk=disk)
+        Supervised(it, folder, nodes, beats, keys[it - 1], silent, disk=disk, code=code)
         for it in range(1, size + 1)
     ]

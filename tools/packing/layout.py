@@ -20,10 +20,11 @@ SCRIPTS = [*manual.SCRIPTS, "console"]
 COMPILERS = ("assemble", "compile", "files", "translate", "volume")
 COMPILER_FILES = ("assembler/**/*", "compiler/**/*", "pcode/**/*", "translator/**/*",
                   "volumes/**/*")
+UNITS = ("pgroup@.service", "pgroup-page@.service")
 # The pages and pictures, with all pages that they link to. Their other links, to sources, tests and
 # scripts, lead into the repository alone.
 PAGES = (
-    "README.md", "CHANGELOG.md", "docs/*.md", "docs/pictures/*.svg", "bench/RESULTS.md",
+    "README.md", "CHANGELOG.md", "docs/*.md", "docs/pictures/*", "bench/RESULTS.md",
     "tests/cases/README.md",
 )
 # The examples that need nothing else of the repository.
@@ -78,8 +79,9 @@ class Tree:
 def put_scripts(tree):
     for name in manual.SCRIPTS:
         tree.copy(os.path.join(manual.GROUP, name), f"{LIBRARY}/tools/group/{name}")
-    shared = os.path.join(manual.GROUP, "shared", "**", "*.py")
-    for path in sorted(glob.glob(shared, recursive=True)):
+    shared = os.path.join(manual.GROUP, "shared", "**")
+    found = glob.glob(f"{shared}/*.py", recursive=True) + glob.glob(f"{shared}/static/*")
+    for path in sorted(set(found)):
         tree.copy(path, f"{LIBRARY}/tools/{os.path.relpath(path, manual.TOOLS)}")
     for name in ("console", "tools/bash/provide.bash"):
         tree.copy(os.path.join(TOP, name), f"{LIBRARY}/{name}")
@@ -118,8 +120,8 @@ def put_all(folder, program):
     put_compilers(tree)
     put_docs(tree)
     tree.write("share/doc/pgroup/version", lines_of_version(program))
-    unit = os.path.join(manual.GROUP, "pgroup@.service")
-    tree.copy(unit, "lib/systemd/system/pgroup@.service")
+    for unit in UNITS:
+        tree.copy(os.path.join(manual.GROUP, unit), f"lib/systemd/system/{unit}")
 
 
 def settle(folder, seconds):

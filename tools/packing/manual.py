@@ -16,7 +16,7 @@ TOOLS = os.path.join(TOP, "tools")
 GROUP = os.path.join(TOOLS, "group")
 # The commands of the program that have a page, beside the one of all.
 COMMANDS = ("check", "list", "run", "show", "sim", "net", "node")
-SCRIPTS = ("attach", "demo", "draw", "lead", "renew", "replay", "status", "supervise")
+SCRIPTS = ("attach", "demo", "draw", "lead", "page", "renew", "replay", "status", "supervise")
 
 
 class Caught(Exception):

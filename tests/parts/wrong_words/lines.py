@@ -10,8 +10,8 @@ new           a name that is free                                 session the ch
 
 # The scripts that refuse an option that they have not.
 NAMES = (
-    "lead", "attach", "renew", "replay", "draw", "status", "supervise", "compile", "assemble",
-    "volume", "translate", "console", "package",
+    "lead", "attach", "page", "renew", "replay", "draw", "status", "supervise", "compile",
+    "assemble", "volume", "translate", "console", "package",
 )
 
 SUPERVISE = (
@@ -37,6 +37,21 @@ LINES = """
 2 attach 127.0.0.1:1804 {noise}
 2 attach 127.0.0.1:1804 --seen -1
 2 attach 127.0.0.1:1804 {noise} --seen x
+2 page
+2 page {record} --port x
+2 page {record} --port 70000
+2 page {record} --at 0
+2 page {record} --listen 0.0.0.0
+2 page {record} --traces {folder}
+2 page {record} --screen vt99
+2 page {record} --certificate {none}
+1 page {record} --certificate {none} --private-key {none}
+1 page {record} --certificate {noise} --private-key {noise}
+1 page {record} --addresses {folder}
+1 page {record} --addresses {none}/new
+1 page --traces {none}
+1 page --traces {noise}
+1 page --traces {folder}
 2 renew
 2 renew {record}
 2 renew --file {code}

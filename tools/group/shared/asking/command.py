@@ -26,22 +26,35 @@ def add_words(add):
     add("--metrics", action="store_true", help="prints it as a text of metrics for Prometheus")
 
 
-def take_file(words):
-    """Takes from a file of a supervisor's words what was not said."""
-    found = argparse.ArgumentParser(add_help=False, allow_abbrev=False, exit_on_error=False)
+class Words(argparse.ArgumentParser):
+    """A parser of words that nobody has typed just now: it ends nothing."""
+
+    def error(self, message):
+        raise ValueError(message)
+
+
+def words_in(path):
+    """What a file of a supervisor's words says of the group, and of its own node's record."""
+    found = Words(add_help=False, allow_abbrev=False)
     found.add_argument("--beats", type=address_of, nargs="+")
     found.add_argument("--session", type=int)
     found.add_argument("--beats-key")
+    found.add_argument("--record")
     try:
-        with open(words.group, encoding="utf-8") as file:
+        with open(path, encoding="utf-8") as file:
             lines = file.read().split("\n")
         parts = [it for line in lines for it in shlex.split(line, comments=True)]
-        taken = found.parse_known_args(parts)[0]
+        return found.parse_known_args(parts)[0]
     except OSError as fault:
-        fault.filename = words.group
+        fault.filename = path
         raise Refused(text_of_fault(fault))
-    except (ValueError, argparse.ArgumentError) as fault:
-        raise Refused(f"{words.group}: {fault}")
+    except ValueError as fault:
+        raise Refused(f"{path}: {fault}")
+
+
+def take_file(words):
+    """Takes from a file of a supervisor's words what was not said."""
+    taken = words_in(words.group)
     for name in ("beats", "session", "beats_key"):
         if getattr(words, name) is None:
             setattr(words, name, getattr(taken, name))

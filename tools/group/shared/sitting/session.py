@@ -28,9 +28,9 @@ class Session:
     """`output` has what the console has shown and nobody has taken yet, and `said` the sentences:
     each a kind and a text."""
 
-    def __init__(self, seats, at=0):
+    def __init__(self, seats, at=0, tally=Tally):
         self.seats, self.at = seats, at
-        self.tally, self.number = None, None
+        self.tally, self.number, self.new_tally = None, None, tally
         self.shown, self.tail, self.output = None, b"", bytearray()
         # Keys that are not sent yet, each with its number, and how many were typed.
         self.held, self.count = collections.deque(), 0
@@ -106,7 +106,7 @@ class Session:
         if self.tally:
             self.leave()
             self.losses.renew()
-        self.number, self.tally = record.session, Tally(record.size)
+        self.number, self.tally = record.session, self.new_tally(record.size)
         for it in self.seats:
             if it.votes:
                 it.votes.forget()
@@ -232,6 +232,29 @@ class Session:
                  "and its console is shown.")
         self.away = self.stopped = None
         return True
+
+    def go_to(self, at):
+        """Goes on at this node, as a person wants it. Why it cannot, or None."""
+        seat = self.seats[at]
+        if at == self.at and not self.away:
+            return f"the session is at {self.name(at)} already"
+        if not self.rank(at):
+            return self.why_not(at, seat)
+        self.leave()
+        self.at, self.away, self.stopped = at, None, None
+        self.say("moved", f"the session goes on at {self.name()}, as it was asked for.")
+        return None
+
+    def why_not(self, at, seat):
+        """Why the session cannot go on at a node."""
+        name = self.name(at)
+        if not seat.is_up():
+            return f"{name} does not run here, or is stopped"
+        if seat.keys is None or seat.size() is None:
+            return f"the console of {name}, or the address of its keys, is not known here"
+        if self.agrees(seat) is False:
+            return f"the console of {name} is another one than was shown"
+        return f"{name} takes no keys now, or is of another session"
 
     def leave(self):
         if self.stay and self.stay.keys:

@@ -1,0 +1,1 @@
+"""A page in a real browser: what tests/browser uses."""

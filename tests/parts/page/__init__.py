@@ -1,0 +1,1 @@
+"""A page of tools/group and who visits it, without a browser: what tests/page uses."""

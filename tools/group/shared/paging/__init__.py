@@ -1,0 +1,1 @@
+"""A session and its group in a browser: `page`."""

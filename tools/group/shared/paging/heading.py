@@ -1,0 +1,58 @@
+"""The sentence above a page that says how its group is, and what is to be done about it."""
+
+RUNS = ("up", "leads")
+
+
+def runs(nodes):
+    return [it for it in nodes if it["state"] in RUNS]
+
+
+def majority_of(nodes, size):
+    """Whether a majority runs, or None if that is not known."""
+    up = len(runs(nodes))
+    unknown = size - sum(it["state"] != "unknown" for it in nodes)
+    if 2 * up > size:
+        return True
+    return None if 2 * (up + unknown) > size else False
+
+
+def heading_of(nodes, size, leader, is_nobody):
+    """`leader` is the text of who leads, or None."""
+    up, is_known = len(runs(nodes)), all(it["state"] != "unknown" for it in nodes)
+    run = "run" if is_known and len(nodes) == size else "are known to run"
+    majority = {
+        True: "a majority", False: "no majority",
+        None: "and whether a majority runs is unknown",
+    }[majority_of(nodes, size)]
+    who = leader or ("nobody leads" if is_nobody else "who leads is unknown")
+    ends = [it["end"] for it in nodes if it.get("end")]
+    ended = f"; {ends[0].replace('its', 'the')}, and reads no key any more" if ends else ""
+    return f"{up} of {size} nodes {run}, {majority}; {who}{ended}"
+
+
+def due_of(nodes, size, is_nobody):
+    """What a person can do: a sentence, and the node that is best asked to lead, or None."""
+    if not is_nobody:
+        return None
+    majority = majority_of(nodes, size)
+    if majority is False:
+        return {"text": "No majority runs: what is typed waits until one does.", "at": None}
+    best = best_of(nodes)
+    text = "Nobody leads: what is typed waits."
+    if best is None:
+        return {"text": text, "at": None}
+    return {"text": text, "at": best["at"], "node": best["node"]}
+
+
+def best_of(nodes):
+    """The node that knows the greatest ballot: the one of another may be refused. Of several it is
+    the one whose console is longest, and of these the one that has run longest: one that has just
+    begun has to hear again what was chosen."""
+    able = [it for it in nodes if it.get("can_lead")]
+    return max(able, default=None, key=lambda it: (
+        ballot_in(it), it["bytes"] or 0, -it["began"], -it["node"]))
+
+
+def ballot_in(node):
+    text = node.get("promised") or "-"
+    return tuple(map(int, text.split("."))) if text != "-" else (0, 0)

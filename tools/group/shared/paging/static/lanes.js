@@ -1,0 +1,94 @@
+// A lane: the last seconds of a node, time from left to right up to now, as in the pictures of
+// `draw`.
+import { draw } from "./look.js";
+
+export const SECONDS = 60;
+const STRIP = 14, WORD = 5.6, KEPT = 400;
+const FLAGS = {
+  campaign: (it) => `campaigns ${it}`, asked: () => "asked", leads: (it) => `leads ${it}`,
+};
+
+export class Lane {
+  constructor(svg) {
+    this.svg = svg;
+    this.clear();
+  }
+
+  clear() {
+    [this.marks, this.spans, this.shown] = [[], [], ""];
+  }
+
+  note(when, kind, text) {
+    const kept = kind === "span" ? this.spans : this.marks;
+    kept.push([when, kind, text]);
+    if (kept.length > KEPT) kept.shift();
+  }
+
+  draw(now) {
+    const wide = this.svg.clientWidth, high = this.svg.clientHeight;
+    if (!wide) return;
+    this.right = wide - 4;
+    this.x = (when) => this.right - ((now - when) / 1000) * (this.right / SECONDS);
+    this.base = high - STRIP - 1;
+    this.y = Math.round((this.base - 4) / 2) + (high > 60 ? 5 : 3);
+    const parts = [...this.grid(now), draw("rect",
+      { x: 0, y: this.base, width: wide, height: STRIP, class: "strip" })];
+    parts.push(...this.line(), ...this.signs(), this.console());
+    this.svg.replaceChildren(...parts);
+  }
+
+  grid(now) {
+    const parts = [];
+    for (let when = Math.floor(now / 10000) * 10000; this.x(when) > 0; when -= 10000) {
+      const x = this.x(when);
+      parts.push(draw("line", { x1: x, x2: x, y1: 0, y2: this.base, class: "grid" }));
+    }
+    return parts;
+  }
+
+  line() {
+    const parts = [], { y } = this;
+    this.spans.forEach(([when, , word], index) => {
+      const next = this.spans[index + 1];
+      const x1 = Math.max(0, this.x(when)), x2 = next ? this.x(next[0]) : this.right;
+      if (x2 > 0) parts.push(draw("line", { x1, x2, y1: y, y2: y, class: word }));
+    });
+    return parts;
+  }
+
+  signs() {
+    const parts = [];
+    let flagEnd = -99;
+    for (const [when, kind, text] of this.marks) {
+      const x = this.x(when);
+      if (x < -200) continue;
+      const sign = this.sign(kind, x);
+      if (sign) parts.push(sign);
+      const word = FLAGS[kind]?.(text), wide = word && word.length * WORD;
+      const begin = word && Math.max(Math.min(x, this.right - wide), flagEnd);
+      // Words for which there is no room near their moment are left out.
+      if (!word || begin < 0 || begin - x > 40 || begin + wide > this.right + 4) continue;
+      parts.push(draw("text", { x: begin, y: this.y - 8, class: `flag ${kind}` }, word));
+      flagEnd = begin + wide + 6;
+    }
+    return parts;
+  }
+
+  sign(kind, x) {
+    const { y } = this;
+    if (kind === "place") {
+      const end = Math.min(y + 12, this.base - 1);
+      return draw("line", { x1: x, x2: x, y1: y + 5, y2: end, class: "tick" });
+    }
+    if (kind === "start") return draw("path", { d: `M${x} ${y - 6}l8 6l-8 6z`, class: "start" });
+    if (kind !== "crash") return null;
+    return draw("path", { d: `M${x - 6} ${y - 6}l12 12m0-12l-12 12`, class: "crash" });
+  }
+
+  console() {
+    const room = Math.floor((this.right - 4) / 6.03), end = this.shown || "";
+    const word = end.length <= room ? end : `…${end.slice(end.length - room + 1)}`;
+    const y = this.base + STRIP - 4;
+    return draw("text", { x: this.right, y, class: "console", "text-anchor": "end" }, word);
+  }
+}

@@ -1,0 +1,158 @@
+// The nodes: a card and a lane for each, and what a person can do about the group.
+import { $, draw, make, many } from "./look.js";
+import { say, serverNow } from "./said.js";
+import { ask } from "./enter.js";
+import { focusKeys } from "./keys.js";
+import { Lane } from "./lanes.js";
+import { followCursor } from "./screen.js";
+
+const FEW = 5;
+const STATES = { up: "runs", leads: "leads", down: "does not run", stopped: "is stopped",
+  unknown: "is unknown" };
+// The cards by the numbers of the lanes, and the group as it was told last.
+let cards = new Map(), group = null, role = "watch";
+
+async function act(path, at) {
+  try {
+    const why = (await ask(path, { at }))[1];
+    if (why) say(why, "bad");
+  } catch {
+    say("The page's server does not answer: look whether it was done, and try again.", "bad");
+  }
+}
+
+function newCard(at) {
+  const it = { box: make("article", "node"), head: make("div", "head"), name: make("h2"),
+    state: make("span", "state"), here: make("span", "here", "session"), few: make("span", "few"),
+    facts: make("div", "facts"), lead: make("button", "", "Ask to lead"),
+    go: make("button", "", "Type here"), svg: draw("svg", { role: "img" }) };
+  it.lane = new Lane(it.svg);
+  it.lead.onclick = () => act("/lead", at);
+  it.go.onclick = () => act("/go", at);
+  for (const button of [it.go, it.lead]) button.type = "button";
+  const buttons = make("span", "buttons");
+  buttons.append(it.go, it.lead);
+  it.head.append(it.name, it.state, it.here, it.few, buttons);
+  it.box.append(it.head, it.facts, it.svg);
+  return it;
+}
+
+function cardOf(at) {
+  if (!cards.has(at)) cards.set(at, newCard(at));
+  return cards.get(at);
+}
+
+// Notes a mark, and returns the name of its node.
+export function note(at, when, kind, text) {
+  cardOf(at).lane.note(when, kind, text);
+  return cardOf(at).name.textContent || `node ${at + 1}`;
+}
+
+export function clearLanes(mine) {
+  role = mine;
+  for (const it of cards.values()) it.lane.clear();
+}
+
+function fact(name, value) {
+  const it = make("span"), b = make("b", "", value);
+  it.append(`${name} `, b);
+  return it;
+}
+
+function showCard(node) {
+  const it = cardOf(node.at), name = `node ${node.node}`;
+  const runs = ["up", "leads"].includes(node.state);
+  const lag = runs && node.lag ? `, behind by ${many(node.lag, "byte")}` : "";
+  const word = node.state === "up" && group.is_led ? "follows" : STATES[node.state];
+  it.box.className = `node ${node.state}`;
+  it.box.setAttribute("aria-label", `${name} ${word}`);
+  it.name.textContent = name;
+  it.state.textContent = word + lag;
+  it.state.title = node.pid ? `process ${node.pid}` : "";
+  it.here.hidden = node.at !== group.seat;
+  it.few.textContent = node.fault || `${node.promised || "-"} · ${many(node.votes ?? 0, "vote")}`;
+  it.lead.hidden = it.go.hidden = role !== "type";
+  it.lead.disabled = !node.can_lead;
+  it.go.disabled = !node.can_type || node.at === group.seat;
+  it.lead.setAttribute("aria-label", `Ask ${name} to lead`);
+  it.go.setAttribute("aria-label", `Type at ${name}`);
+  it.facts.replaceChildren(...facts(node));
+  it.svg.setAttribute("aria-label", `The last minute of ${name}`);
+  it.lane.shown = node.shown || "";
+  return it.box;
+}
+
+function facts(node) {
+  const parts = [fact("promised", node.promised || "unknown")];
+  if (node.votes !== null) parts.push(fact("votes", node.votes.toLocaleString("en")));
+  if (node.starts !== null) parts.push(fact("starts", node.starts));
+  parts.push(fact("shows", node.bytes === null ? "unknown" : many(node.bytes, "byte")));
+  if (node.pid) parts.push(fact("process", node.pid));
+  if (node.fault) parts.push(fact("", node.fault));
+  return parts;
+}
+
+export function showGroup(told) {
+  group = told;
+  const box = $("nodes"), boxes = group.nodes.map(showCard);
+  if (boxes.length !== box.children.length || boxes.some((it, at) => it !== box.children[at])) {
+    box.replaceChildren(...boxes);
+    box.classList.toggle("many", boxes.length > FEW);
+  }
+  $("heading").textContent === group.heading || ($("heading").textContent = group.heading);
+  $("heading").className = group.is_led ? "" : "bad";
+  $("session").textContent = group.session === null ? "" : `session ${group.session}`;
+  showUsed();
+  const verb = group.waiting === 1 ? "waits" : "wait";
+  const waits = group.waiting ? `${many(group.waiting, "key")} ${verb}` : "";
+  $("at").textContent = group.seat === null ? "at no node of this machine" : `at ${group.name}`;
+  $("waits").textContent = waits + (waits && group.why ? `: ${group.why}` : "");
+  showDue();
+  drawLanes();
+}
+
+function showUsed() {
+  const of = group.places.toLocaleString("en"), used = group.used;
+  $("used").hidden = used === null;
+  $("used").firstChild.textContent = `${(used ?? 0).toLocaleString("en")} of ${of} places`;
+  $("used").querySelector("b").style.width = `${(100 * (used || 0)) / group.places}%`;
+  $("used").classList.toggle("full", used > 0.9 * group.places);
+}
+
+function showDue() {
+  const due = group.due, box = $("due"), [text, button] = box.children, had = box.hidden;
+  if (!due) {
+    const isMine = box.contains(document.activeElement);
+    box.hidden = true;
+    if (isMine) focusKeys();
+    return;
+  }
+  box.hidden = false;
+  if (text.textContent !== due.text) text.textContent = due.text;
+  button.hidden = due.at === null || role !== "type";
+  button.textContent = due.at === null ? "" : `Ask node ${due.node} to lead`;
+  button.onclick = () => act("/lead", due.at);
+  if (had) followCursor();
+}
+
+// F6: to the first thing that can be done about the nodes.
+export function leave() {
+  const due = $("due").lastElementChild, first = document.querySelector("#nodes button:enabled");
+  const isDue = !$("due").hidden && !due.hidden;
+  (isDue ? due : first && !first.hidden ? first : $("said")).focus();
+}
+
+let isDue = false;
+function drawLanes() {
+  if (isDue) return;
+  isDue = true;
+  requestAnimationFrame(() => {
+    isDue = false;
+    for (const it of cards.values()) it.lane.draw(serverNow());
+  });
+}
+
+export function beginNodes() {
+  setInterval(() => group && !document.hidden && drawLanes(), 1000);
+  addEventListener("resize", () => group && drawLanes());
+}

@@ -1,0 +1,204 @@
+"""The session at which all browsers of a page sit: what they type, the screen that they see, and
+what is to be said of the group."""
+
+import codecs
+import collections
+import concurrent.futures
+import threading
+import time
+
+from ..record import PLACES, text_of_ballot
+from ..screens import Screen
+from ..sitting.seat import Seat
+from ..sitting.session import Session
+from ..terminal import Terminal
+from .clients import Clients
+from .counts import Counted
+from .heading import due_of, heading_of
+from .lanes import Lane, Marks, now
+
+# How often the session looks, in seconds: for some time after a key, while keys wait, and at the
+# console alone else; and how often it looks at more than that then.
+SOON, LATE, AWAKE, REST, LOOK = 0.002, 0.02, 0.5, 0.04, 0.15
+# How often the nodes are shown anew, at most.
+SHOT = 0.1
+# How many bytes of keys may wait here, and how many sentences are kept.
+MOST, SENTENCES = 1 << 16, 200
+# How long a request that the session has to do may take, in seconds.
+PATIENCE = 10.0
+
+
+class Table:
+    """`changed` guards all that browsers are shown, and is notified when something of it is new:
+    then `version` has grown."""
+
+    def __init__(self, seats, at, is_lf, screen=None):
+        # Without a node of this machine there is a group to be seen, and no session.
+        self.session = Session(seats or [Seat(None, None, None)], at, Counted)
+        self.has_seat, self.is_lf = bool(seats), is_lf
+        self.screen = Screen(screen, is_lf) if screen else None
+        self.terminal = Terminal(is_lf=is_lf)
+        self.decoder = codecs.getincrementaldecoder("utf-8")("replace")
+        self.changed, self.version = threading.Condition(), 0
+        self.clients, self.keys, self.orders = Clients(), bytearray(), []
+        self.marks = Marks()
+        self.lanes = [Lane(*it, self.marks) for it in zip(range(len(seats)), seats)]
+        # What supervisors say of the nodes whose records are not here, and of the group.
+        self.others, self.view = [], None
+        self.sentences, self.said = collections.deque(maxlen=SENTENCES), 0
+        self.group, self.screens, self.held = None, 0, 0
+        self.wake, self.typed, self.shot = threading.Event(), -AWAKE, -SHOT
+
+    # What browsers ask for, each in a thread of its own.
+
+    def type(self, client, number, keys):
+        """Takes keys of a browser, once for each number. A status, and a sentence or None."""
+        with self.changed:
+            last = self.clients.last(client)
+            if last is None:
+                return 409, "This browser is not known here any more: open the page again."
+            if number == last[0]:
+                return last[1]
+            if number != last[0] + 1:
+                return 409, f"The keys with number {last[0] + 1} are expected, not {number}."
+            waiting = self.held + len(self.keys)
+            if waiting + len(keys) > MOST:
+                answer = 409, f"{waiting} keys wait here already: nothing is chosen."
+            else:
+                answer = 200, None
+                self.keys += keys
+                self.typed = time.monotonic()
+            self.clients.note(client, number, answer)
+        self.wake.set()
+        return answer
+
+    def ask(self, what, *words):
+        """Lets the session do something. What it returns."""
+        done = concurrent.futures.Future()
+        with self.changed:
+            self.orders.append((done, what, words))
+        self.wake.set()
+        return done.result(PATIENCE)
+
+    def go_to(self, at):
+        return self.ask(self.session.go_to, at)
+
+    def note_asked(self, at):
+        """Notes that somebody has asked a node to lead."""
+        with self.changed:
+            self.marks.add(at, "asked", "asked")
+            self.note_sentence("asked", f"{self.session.name(at).capitalize()} is asked to lead.")
+            self.changed.notify_all()
+
+    def say(self, kind, text):
+        with self.changed:
+            self.note_sentence(kind, text)
+            self.changed.notify_all()
+
+    # What the session's own thread does.
+
+    def serve(self):
+        """Lets the session go on, for ever."""
+        while True:
+            self.wake.clear()
+            self.rest(*self.step())
+
+    def step(self):
+        """Does what is due. Whether it may look again at once, and whether soon."""
+        with self.changed:
+            keys, self.keys = bytes(self.keys), bytearray()
+            orders, self.orders = self.orders, []
+            self.held = len(self.session.held) + len(keys)
+        session = self.session
+        session.type(keys)
+        for done, what, words in orders:
+            done.set_result(what(*words))
+        is_new = self.has_seat and session.step()
+        said, session.said = session.said, []
+        data, session.output = bytes(session.output), bytearray()
+        is_due = bool(said or orders) or time.monotonic() - self.shot >= SHOT
+        with self.changed:
+            before = self.version
+            self.note(data, said)
+            if is_due:
+                self.look()
+            if self.version != before:
+                self.changed.notify_all()
+        return is_new, is_new or time.monotonic() - self.typed < AWAKE
+
+    def rest(self, is_new, is_soon):
+        """Waits until something may be new: for long only a key or the console ends it."""
+        if is_new:
+            return
+        if is_soon or self.session.away or self.session.held:
+            self.wake.wait(SOON if is_soon else LATE)
+            return
+        until, seat = time.monotonic() + LOOK, self.session.seat()
+        size = seat.size()
+        while not self.wake.wait(REST) and time.monotonic() < until and seat.size() == size:
+            pass
+
+    def note(self, data, said):
+        if data:
+            data = self.screen.translated(data) if self.screen else data
+            self.terminal.write(self.decoder.decode(data))
+            self.screens += 1
+            self.version += 1
+        for kind, text in said:
+            self.note_sentence(kind, text)
+        self.held = len(self.session.held)
+
+    def note_sentence(self, kind, text):
+        self.said += 1
+        self.sentences.append((self.said, now(), kind, text))
+        self.version += 1
+
+    def look(self):
+        """Brings what is shown of the nodes up to date."""
+        session, self.shot = self.session, time.monotonic()
+        leader, count = self.leader(), self.marks.count
+        for it in self.lanes:
+            fresh = session.tally.take_fresh(it.number()) if session.tally else []
+            it.look(leader, fresh)
+        group = self.group_now(leader)
+        if group != self.group or self.marks.count != count:
+            self.group = group
+            self.version += 1
+
+    def leader(self):
+        """The ballot that leads, False if it is known that none does, or None."""
+        leader, view = self.session.leader(), self.view
+        if leader is None and view:
+            return view.leader() or (False if view.leads_nobody() else None)
+        return leader
+
+    def size(self, seen):
+        if self.session.tally:
+            return self.session.tally.size
+        return self.view.size if self.view else seen
+
+    def used(self):
+        """How many places are used, as far as that is seen."""
+        tally, view = self.session.tally, self.view
+        said = [it.places for it in view.states.values() if it.places is not None] if view else []
+        if tally:
+            said.append(tally.used())
+        return max(said, default=None)
+
+    def group_now(self, leader):
+        """The group for a browser."""
+        session = self.session
+        front = max((it.size for it in self.lanes if it.size is not None), default=0)
+        nodes = [it.shot(session, front) for it in self.lanes] + self.others
+        nodes.sort(key=lambda it: it["node"])
+        size, waiting = self.size(len(nodes)), session.waiting()
+        leads = f"node {leader.node} leads, ballot {text_of_ballot(leader)}" if leader else None
+        return {
+            "nodes": nodes, "heading": heading_of(nodes, size, leads, leader is False),
+            "is_led": bool(leader), "due": due_of(nodes, size, leader is False),
+            "session": self.view.session if self.view else session.number,
+            "used": self.used(), "places": PLACES,
+            "seat": session.at if self.has_seat and not session.away else None,
+            "name": session.name(),
+            "waiting": waiting, "why": session.why_waiting() if waiting else "",
+        }
