@@ -90,7 +90,7 @@ class Tab:
         made = browser.call("Target.createTarget", url="about:blank", browserContextId=context)
         attached = browser.call("Target.attachToTarget", targetId=made["targetId"], flatten=True)
         self.session = attached["sessionId"]
-        for domain in ("Page", "Runtime", "Log", "Accessibility"):
+        for domain in ("Page", "Runtime", "Log"):
             self.call(f"{domain}.enable")
         self.size(width, height, is_touch)
         if look:

@@ -58,8 +58,8 @@ def answer_to(port, data, seconds=SECONDS, host="127.0.0.1"):
             it.sendall(data)
             it.shutdown(socket.SHUT_WR)
             came = b"".join(iter(lambda: it.recv(65536), b""))
-        except ConnectionError:
-            return None, b""
+        except OSError:
+            return None, b""  # It was ended.
     found = re.match(rb"HTTP/1\.1 (\d{3}) ", came)
     return (int(found[1]) if found else None), came
 
@@ -115,13 +115,20 @@ class Visitor:
             self.connection.close()
         self.connection = None
 
-    def enter(self, token):
+    def insist(self, path, asked):
+        """Posts it again and again until an answer comes, for a minute at most."""
+        end = time.monotonic() + 60
         while True:
             try:
-                status, answer = self.post("/enter", {"token": token})
-                break
-            except OSError:
-                time.sleep(0.02)
+                return self.post(path, asked)
+            except OSError as fault:
+                if time.monotonic() > end:
+                    raise Broken(f"the page does not answer: {fault}")
+                self.repeated += 1
+                time.sleep(0.01)
+
+    def enter(self, token):
+        status, answer = self.insist("/enter", {"token": token})
         if status != 200:
             raise Broken(f"the token is refused: {answer}")
         self.cookie = self.last_headers["Set-Cookie"].split(";")[0]
@@ -131,13 +138,7 @@ class Visitor:
         """Types keys by one request, which is repeated while no answer comes."""
         self.number += 1
         asked = {"client": self.client, "number": self.number, "keys": text}
-        while True:
-            try:
-                status, answer = self.post("/keys", asked)
-                break
-            except OSError:
-                self.repeated += 1
-                time.sleep(0.01)
+        status, answer = self.insist("/keys", asked)
         if status != 200:
             raise Broken(f"the keys {text!r} are refused: {answer}")
 

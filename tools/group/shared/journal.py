@@ -15,10 +15,11 @@ PAUSE, MOST = 60.0, 256
 NUMBER = re.compile(r"\d+")
 
 
-def is_journal():
-    """Whether standard error leads to the journal: systemd says which file that is."""
+def is_journal(descriptor=2):
+    """Whether standard error, or another one, leads to the journal: systemd says which file that
+    is."""
     try:
-        status = os.fstat(2)
+        status = os.fstat(descriptor)
     except OSError:
         return False
     return os.environ.get("JOURNAL_STREAM") == f"{status.st_dev}:{status.st_ino}"
