@@ -132,7 +132,7 @@ def functions_of(crate):
             modules = modules_of(path, owner or it[2])
             clauses = clauses_at(text, it.end()) + members
             # What returns nothing, and takes no reference, can only state a law.
-            law = r"\([^()&]*\)\s*(?:ghost|requires|ensures)\b"
+            law = r"(?:<[^()]*>)?\([^()&]*\)\s*(?:ghost|requires|ensures)\b"
             is_law = re.match(law, text[it.end() :]) is not None
             found.append(Function(
                 crate, modules, owner, it[2], it[1] == "pub ", is_pub, is_law, clauses, path,

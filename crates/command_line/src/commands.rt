@@ -4,7 +4,7 @@ use crate::datagram::show;
 use crate::environment::{if_said, is_log_asked, trace_asked};
 use command_words::{Asked, NodeWords};
 use group_sim::{ScriptRefusal, sim_file};
-use machine_run::{Counting, IoFault, MachineRefusal, check_file, list_file, run_file};
+use machine_run::{Counting, MachineRefusal, RunIo, check_file, list_file, run_file};
 use net_run::{NetPlan, net_file};
 use node_run::{NodePlan, RunPlan, node_file};
 use paxos_msg::Group;
@@ -17,7 +17,7 @@ use std::time::Clock;
 /// Writes what is left of what a script said. Returns false if a write has failed, now or before.
 fn is_written<W: Write + Drop>(said: &mut BufWriter<W>, done: &Result<(), ScriptRefusal>) -> bool {
     match done {
-        Err(ScriptRefusal::Machine(MachineRefusal::Run(IoFault::Write))) => false,
+        Err(ScriptRefusal::Machine(MachineRefusal::Run(RunIo::Write))) => false,
         _ => said.flush().is_ok(),
     }
 }
@@ -31,14 +31,14 @@ fn sim<H: Files + AllocGlobal, W: Write>(
     writer: &mut W,
 ) -> Result<(), Refusal> {
     let Ok(mut said) = BufWriter::new(rt.alloc(), writer) else {
-        return Err(Refusal::Machine(MachineRefusal::Run(IoFault::Memory)));
+        return Err(Refusal::Machine(MachineRefusal::Run(RunIo::Memory)));
     };
     let done = sim_file(rt, file, script, &mut said);
     let is_written = is_written(&mut said, &done);
     // What a failed write did not write is not tried again.
     let _ = said.into_parts();
     if !is_written {
-        return Err(Refusal::Machine(MachineRefusal::Run(IoFault::Write)));
+        return Err(Refusal::Machine(MachineRefusal::Run(RunIo::Write)));
     }
     Ok(done?)
 }

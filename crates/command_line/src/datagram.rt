@@ -4,7 +4,7 @@ ghost use Rattle.paxos_msg.specs.declared.limits.TheConstants.{MOST_VOTES};
 ghost use Rattle.paxos_msg.specs.Bodies.{HasUpTo};
 
 use digits::{HexError, hex_bytes};
-use machine_run::IoFault;
+use machine_run::RunIo;
 use paxos_msg::{Ballot, BodyView, Group, LentVotes, Value, View, Vote, WireFault, decode};
 use std::alloc::Global;
 use std::io::{self, Write};
@@ -17,7 +17,7 @@ pub enum ShowFault {
     /// The bytes are no datagram of the group.
     Datagram(WireFault),
     /// Memory ran out, or the write failed.
-    Run(IoFault),
+    Run(RunIo),
 }
 
 /// Writes the line of a vote.
@@ -96,7 +96,7 @@ fn write_message<W: Write>(writer: &mut W, view: &View<'_>) -> io::Result<()>
                 "refused from {sender} ballot {ballot} promised {promised}"
             )
         }
-        BodyView::Submit { value } => writeln!(writer, "submit from {sender} {value}"),
+        BodyView::Submit { key } => writeln!(writer, "submit from {sender} {key}"),
         BodyView::Ask { from } => writeln!(writer, "ask from {sender} place {from}"),
         BodyView::Tell { place, value } => {
             writeln!(writer, "tell from {sender} place {place} {value}")
@@ -115,10 +115,10 @@ pub fn show<W: Write>(
     let bytes = match hex_bytes(alloc, digits) {
         Ok(bytes) => bytes,
         Err(HexError::Bad) => return Err(ShowFault::BadHex),
-        Err(HexError::Memory) => return Err(ShowFault::Run(IoFault::Memory)),
+        Err(HexError::Memory) => return Err(ShowFault::Run(RunIo::Memory)),
     };
     match decode(bytes.as_slice(), group) {
         Err(fault) => Err(ShowFault::Datagram(fault)),
-        Ok(view) => write_message(writer, &view).or(Err(ShowFault::Run(IoFault::Write))),
+        Ok(view) => write_message(writer, &view).or(Err(ShowFault::Run(RunIo::Write))),
     }
 }

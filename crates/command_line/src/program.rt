@@ -3,7 +3,7 @@ use crate::codes::CODES;
 use crate::commands::perform;
 use crate::conclusion::{BAD_WORDS, Conclusion, DONE, Refusal, conclude, refuse};
 use command_words::{DEFAULT_STEPS, NotAsked, asked_of};
-use machine_run::{IoFault, MachineRefusal, run_built_in};
+use machine_run::{MachineRefusal, RunIo, run_built_in};
 use std::fs::File;
 use std::io::{self, Read, Write};
 use std::net::Net;
@@ -11,16 +11,13 @@ use std::rt::{Env, Files};
 use std::time::Clock;
 
 /// The version of the program, which is the newest of CHANGELOG.md.
-const VERSION: &str = "0.10.0";
+const VERSION: &str = "0.11.0";
 
 /// Returns the status once a text was written, or could not be.
 fn status_of<E: Write>(errors: &mut E, written: io::Result<()>) -> u8 {
     match written {
         Ok(()) => DONE,
-        Err(_) => refuse(
-            errors,
-            Refusal::Machine(MachineRefusal::Run(IoFault::Write)),
-        ),
+        Err(_) => refuse(errors, Refusal::Machine(MachineRefusal::Run(RunIo::Write))),
     }
 }
 
@@ -48,10 +45,7 @@ pub fn explain<W: Write, E: Write>(writer: &mut W, errors: &mut E, reason: NotAs
             let _ = write!(errors, "{fault}");
             BAD_WORDS
         }
-        NotAsked::Memory => refuse(
-            errors,
-            Refusal::Machine(MachineRefusal::Run(IoFault::Memory)),
-        ),
+        NotAsked::Memory => refuse(errors, Refusal::Machine(MachineRefusal::Run(RunIo::Memory))),
     }
 }
 

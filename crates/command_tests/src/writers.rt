@@ -1,7 +1,7 @@
 //! Commands over a writer that takes nothing, or that cannot be flushed.
 use command_words::{DEFAULT_STEPS, NotAsked, asked_of};
 use group_sim::{ScriptRefusal, sim_file};
-use machine_run::{Counting, IoFault, MachineRefusal, list_file, run_built_in, run_file};
+use machine_run::{Counting, MachineRefusal, RunIo, list_file, run_built_in, run_file};
 use std::alloc::{AllocError, Global};
 use std::fs;
 use std::io::{self, ErrorKind, Write};
@@ -92,7 +92,7 @@ fn is_refused(rt: &HostRuntime, work: Work, output: &mut Sink) -> Result<bool, A
         },
         Work::Help => return help_fails(rt.alloc(), output),
     };
-    Ok(matches!(refusal, Some(MachineRefusal::Run(IoFault::Write))))
+    Ok(matches!(refusal, Some(MachineRefusal::Run(RunIo::Write))))
 }
 
 /// What is printed, and whether its writer takes all and cannot be flushed, or takes nothing.

@@ -1,1 +1,2 @@
 mod Exact
+mod Starts

@@ -3,7 +3,7 @@ use Rattle.std.specs.Prelude.{◌≡◌, ◌≢◌, ◌⊎◌, ◌↔◌, ◌<�
 use Rattle.paxos_msg.specs.Batches.{Record}
 use Rattle.paxos_acceptor.specs.Opening.{fault_of_load}
 use Rattle.paxos_acceptor.specs.Records.{IsRecord}
-use Rattle.paxos_acceptor.specs.Stores.{FailsAsPlanned, CountsIf, IsOneOf, StoreKind}
+use Rattle.paxos_acceptor.specs.Stores.{FailsAsPlanned, CountsIf, IsOneOf, LoadsFrom, MayLoadNoMore, MayLoadOnly, StoreKind}
 use Rattle.paxos_acceptor.specs.declared.me.Me.{Me}
 use Rattle.paxos_acceptor.specs.declared.store.StoreFault.{StoreFault}
 use Rattle.group_protocol.specs.Calls.{node_fault}
@@ -30,6 +30,9 @@ IsStartRefused (Err e) f = e.fault ≡ f
 -- `BadRecord` is refused exactly if the record is out of its ranges, and `StartsSpent` exactly if
 -- one in its ranges has counted 4,294,967,295 starts. Then the store is as the load left it. A save
 -- that failed has used up the plan.
+-- Of an honest store a restart may load the record with the start counted alone, once the node is
+-- there, and after any refusal but `Store` no more than after the load. Whenever a crash comes,
+-- what it might not load after the load is the record with the start counted.
 -- Allows: any store, honest or not.
 pub record StartsOnRecord {S : Type 0} (kind : StoreKind S) (me : Me) (kept : Record) (left : S)
     (result : Result (NodeState S) (StartRefused S)) : Type 0 where
@@ -39,6 +42,11 @@ pub record StartsOnRecord {S : Type 0} (kind : StoreKind S) (me : Me) (kept : Re
       ↔ (IsRecord me.group.size kept × (kept.starts ≡ LAST_START))
   pub unsaved : IfErr result (λ e. (e.fault ≡ BadRecord) ⊎ (e.fault ≡ StartsSpent) → e.store ≡ left)
   pub used_up : IfErr result (λ e. e.fault ≡ Store → (kind.state e.store).plan ≡ None)
+  pub only : kind.honest
+      → IfOk result (λ n. MayLoadOnly kind n.protocol.store (changed kept Start))
+  pub same : kind.honest → IfErr result (λ e. e.fault ≢ Store → MayLoadNoMore kind left e.store)
+  pub failed : kind.honest → IfErr result (λ e. (r : Record) → kind.may_load e.store r
+      → kind.may_load left r ⊎ (r ≡ changed kept Start))
 
 -- The result of a start, from the answer of its one load and the store that the load left.
 -- A load that gives no record ends the start with its fault, and the store stays as the load left
@@ -50,13 +58,16 @@ StartsAfter kind me (Ok kept) left result = StartsOnRecord kind me kept left res
 StartsAfter kind me (Err f) left result =
     result ≡ Err (record { fault = node_fault (fault_of_load f); store = left })
 
--- A start over the answer of one load, and over the store that the load left.
+-- A start over the answer of one load, and over the store that the load left. An honest one answers
+-- with a record that a restart may load before, and none may be loaded after it that might not be
+-- loaded before.
 -- Forbids: a start over a second load.
 pub record StartsByLoad {S : Type 0} (kind : StoreKind S) (me : Me) (store : S)
     (result : Result (NodeState S) (StartRefused S)) : Type 0 where
   pub answer : Result Record StoreFault
   pub left : S
   pub loads : kind.loads store answer left
+  pub may : LoadsFrom kind store left answer
   pub starts : StartsAfter kind me answer left result
 
 -- What holds of a node that has just started, beside what it knows: it is not stopped, it is in its

@@ -3,6 +3,7 @@ ghost use Rattle.std.specs.Prelude.{◌≡◌, ◌+◌, ◌⊎◌, ◌<◌, ◌�
 ghost use Rattle.std.specs.FinMap.{get};
 ghost use Rattle.paxos_msg.specs.Datagrams.{Fits};
 ghost use Rattle.paxos_acceptor.specs.Calls.{FailsOnlyWith, IsAmong};
+ghost use Rattle.paxos_acceptor.specs.Stores.{MayLoadNoMore, MayLoadOnly};
 ghost use Rattle.paxos_learner.specs.Learner.{IsFront};
 ghost use Rattle.paxos_msg.specs.declared.limits.TheConstants.{PLACES};
 ghost use Rattle.group_protocol.specs.declared.limits.TheConstants.{MOST_WAITING, TICK_PACKETS};
@@ -283,13 +284,15 @@ impl<'a, S: Store> Node<'a, S> {
         self.protocol.learner().learned(place)
     }
 
-    /// Returns the acceptor's record. An honest store has the same one, unless a save has failed.
-    /// All that the node knows is in its ranges.
+    /// Returns the acceptor's record. An honest store has the same one, unless a save has failed,
+    /// and a restart may load no other of it. All that the node knows is in its ranges.
     pub fn record(&self) -> &Record
         ensures same { result.now ≡ self.now.protocol.known.kept }
         ensures ranges { IsInRange self.now.protocol.known }
         ensures stored { S.kind.honest → self.now.protocol.is_stopped ≡ false
             → (S.kind.state self.now.protocol.store).stored ≡ self.now.protocol.known.kept }
+        ensures loads { S.kind.honest → self.now.protocol.is_stopped ≡ false
+            → MayLoadOnly S.kind self.now.protocol.store self.now.protocol.known.kept }
     {
         self.protocol.record()
     }
@@ -339,12 +342,14 @@ impl<'a, S: Store> Node<'a, S> {
     }
 
     /// Passes `plan` on to the store: how its next save fails, or `None`. A store that fails at
-    /// will then has this plan. The record of an honest store, the count of faults and the node
-    /// stay.
+    /// will then has this plan. The record of an honest store, what a restart may load of it, the
+    /// count of faults and the node stay.
     pub fn fail_next(&mut self, plan: Option<bool>)
         ensures same { S.kind.honest
             → (S.kind.state self.new.protocol.store).stored
             ≡ (S.kind.state self.old.protocol.store).stored }
+        ensures may { S.kind.honest
+            → MayLoadNoMore S.kind self.old.protocol.store self.new.protocol.store }
         ensures plan { S.kind.fails_at_will → (S.kind.state self.new.protocol.store).plan ≡ plan }
         ensures faults { (S.kind.state self.new.protocol.store).faults
             ≡ (S.kind.state self.old.protocol.store).faults }

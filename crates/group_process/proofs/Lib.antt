@@ -1,7 +1,7 @@
 mod GivenWasSent
 mod RunHistories
 mod GroupLogs
-mod RunFronts
+pub mod RunFronts
 mod RunsShow
 mod RunsMayHear
 mod NetworksCarry

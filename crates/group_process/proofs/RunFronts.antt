@@ -13,10 +13,10 @@ use Rattle.group_node.specs.Deeds.{Start}
 use Rattle.group_protocol.specs.Packets.{Datagram}
 use Rattle.group_node.specs.NodeCalls.{Running}
 use Rattle.group_wire.specs.Doings.{DoesAll, Doing}
-use Rattle.group_wire.specs.Process.{Process, started}
+use Rattle.group_wire.specs.Process.{IsProcess, Process, started}
 use Rattle.group_world.specs.declared.event.Outcome.TheVariants.{Kept}
 use Rattle.group_world.specs.Processes.{Entry, IsCarried, entries_of, quiet_entry}
-use Rattle.group_process.specs.Runs.{AreFirstRuns, AreRuns, Attempt, FailsToStart, GoesOn, HasRuns, IsAttempt, IsGroupLog, NodeRun, Starts, ends_by, entries_of_attempt, entry_by, record_left}
+use Rattle.group_process.specs.Runs.{AreFirstRuns, AreInTurn, Attempt, FailsToStart, GoesOn, HasRuns, IsAttempt, IsGroupLog, NodeRun, Starts, ends_by, entries_of_attempt, entry_by, record_left}
 
 -- ---- lists
 
@@ -39,16 +39,25 @@ front_of_images f (x ∷ xs) (y ∷ es) fs e =
     let (front, rest, whole, images) = front_of_images f xs es fs cc in (x ∷ front, rest, cc, cc)
 
 -- what holds of each holds of each of a front
-all_of_front : {X : Type 0} (P : X → Type 0) (xs ys : List X) → AllByRecursion P (xs ++ ys) → AllByRecursion P xs
+pub all_of_front : {X : Type 0} (P : X → Type 0) (xs ys : List X) → AllByRecursion P (xs ++ ys) → AllByRecursion P xs
 all_of_front P [] ys h = tt
 all_of_front P (x ∷ xs) ys h = (h.0, all_of_front P xs ys h.1)
 
-carried_front : (group : Group) (sent : List Datagram) (log more : List Entry) → IsCarried group sent (log ++ more)
+pub carried_front : (group : Group) (sent : List Datagram) (log more : List Entry) → IsCarried group sent (log ++ more)
     → IsCarried group sent log
 carried_front group sent [] more h = tt
 carried_front group sent (e ∷ log) more h = (h.0, carried_front group (sent ++ e.sent) log more h.1)
 
 -- ---- runs
+
+-- Starts over what is known of a store: they are runs, which may be cut off at a deed, and a run that goes on
+-- stays the last one.
+pub record MayBeCut (p : Parts) (me : Me) {K : Type 0} (so : K → Attempt → List Attempt → Type 0) : Type 0 where
+  pub runs : (known : K) (run : NodeRun) (rest : List Attempt) → so known (Starts run) rest → IsProcess p me run.process run.last
+  pub cut : (known : K) (run : NodeRun) (rest : List Attempt) (process : Process) (mid : Running) → so known (Starts run) rest
+      → process.loaded ≡ run.process.loaded → IsProcess p me process mid
+      → so known (Starts (record { process = process; last = mid; stand = GoesOn })) []
+  pub still : (known : K) (a : Attempt) (rest cut : List Attempt) → so known a rest → AreFirstRuns cut rest → so known a cut
 
 module _ (p : Parts) (me : Me) where
   -- the deeds of a front
@@ -75,29 +84,48 @@ module _ (p : Parts) (me : Me) where
         | inr (z, rest, whole) ↦ front_of_images (entry_by me.node Kept) run.process.doings es (z ∷ rest) whole
       ]
 
-  -- runs with these entries, which are the first of others
-  abbrev FrontOf : List Attempt → Record → List Entry → Type 0
-  FrontOf runs kept es =
-      (cut : List Attempt) × AreRuns p me kept cut × (es ≡ flat_map (entries_of_attempt me) cut) × AreFirstRuns cut runs
+  module _ {K : Type 0} (so : K → Attempt → List Attempt → Type 0) (next : K → Attempt → K) (may : MayBeCut p me so) where
+    -- starts with these entries, which are the first of others
+    abbrev pub FrontOf : List Attempt → K → List Entry → Type 0
+    FrontOf runs known es =
+        (cut : List Attempt) × AreInTurn so next known cut × (es ≡ flat_map (entries_of_attempt me) cut) × AreFirstRuns cut runs
 
-  -- a front of the entries of a start that ends in it
-  cut_attempt : (kept : Record) (a : Attempt) (rest : List Attempt) (es : List Entry) (y : Entry) (fs : List Entry)
-      → IsAttempt p me kept a rest → entries_of_attempt me a ≡ es ++ y ∷ fs → FrontOf (a ∷ rest) kept es
-  cut_attempt kept (Starts run) others [] y fs any e = ([], tt, refl, tt)
-  cut_attempt kept (Starts run) others (x ∷ es) y fs (read, h, last) e =
-      let start = quiet_entry me.node (Start run.process.loaded) in
-      let head : x ≡ start = cc in
-      let tail : es ++ y ∷ fs ≡ map (entry_by me.node Kept) run.process.doings ++ ends_by me run run.stand = cc in
-      let (front, rest, whole, entries) = deeds_in_front run es y fs tail in
-      let (mid, does) = does_front (started p me run.process.loaded) run.last front rest (rw whole at h.does) in
-      let process : Process = record { loaded = run.process.loaded; doings = front; failed = None } in (
-        Starts (record { process = process; last = mid; stand = GoesOn }) ∷ [],
-        ((read, record { spare = h.spare; does = does; fails = tt }, refl), tt),
-        rw (append-nil, append-nil) (ap (λ z. z ∷ es) head ∙ ap (λ l. start ∷ l) (sym entries)),
-        inr (refl, record { loaded = refl; rest = rest; doings = whole; failed = refl; goes_on = refl }),
-      )
-  cut_attempt kept (FailsToStart loaded is_changed) rest es y fs any e =
-      ([], tt, nil_from_length es (omega (arith, ap length e, length-append es (y ∷ fs))), tt)
+    -- a front of the entries of a start that ends in it
+    cut_attempt : (known : K) (a : Attempt) (rest : List Attempt) (es : List Entry) (y : Entry) (fs : List Entry)
+        → so known a rest → entries_of_attempt me a ≡ es ++ y ∷ fs → FrontOf (a ∷ rest) known es
+    cut_attempt known (Starts run) others [] y fs any e = ([], tt, refl, tt)
+    cut_attempt known (Starts run) others (x ∷ es) y fs any e =
+        let h = may.runs known run others any in
+        let start = quiet_entry me.node (Start run.process.loaded) in
+        let head : x ≡ start = cc in
+        let tail : es ++ y ∷ fs ≡ map (entry_by me.node Kept) run.process.doings ++ ends_by me run run.stand = cc in
+        let (front, rest, whole, entries) = deeds_in_front run es y fs tail in
+        let (mid, does) = does_front (started p me run.process.loaded) run.last front rest (rw whole at h.does) in
+        let process : Process = record { loaded = run.process.loaded; doings = front; failed = None } in (
+          Starts (record { process = process; last = mid; stand = GoesOn }) ∷ [],
+          (may.cut known run others process mid any refl (record { spare = h.spare; does = does; fails = tt }), tt),
+          rw (append-nil, append-nil) (ap (λ z. z ∷ es) head ∙ ap (λ l. start ∷ l) (sym entries)),
+          inr (refl, record { loaded = refl; rest = rest; doings = whole; failed = refl; goes_on = refl }),
+        )
+    cut_attempt known (FailsToStart loaded is_changed) rest es y fs any e =
+        ([], tt, nil_from_length es (omega (arith, ap length e, length-append es (y ∷ fs))), tt)
+
+    -- a front of the entries of starts
+    pub cut_starts : (runs : List Attempt) (known : K) (es fs : List Entry) → AreInTurn so next known runs
+        → es ++ fs ≡ flat_map (entries_of_attempt me) runs → FrontOf runs known es
+    cut_starts [] known [] fs h e = ([], tt, refl, tt)
+    cut_starts [] known (x ∷ es) fs h e = absurd cc
+    cut_starts (a ∷ runs) known es fs (first, others) e =
+        elim (front_of_two (entries_of_attempt me a) (flat_map (entries_of_attempt me) runs) es fs e) [
+          | inl (rest, whole, more) ↦
+              let (cut, are, entries, some) = cut_starts runs (next known a) rest fs others more in (
+                a ∷ cut,
+                (may.still known a runs cut first some, are),
+                whole ∙ ap (λ l. entries_of_attempt me a ++ l) entries,
+                inl (refl, some),
+              )
+          | inr (y, rest, whole) ↦ cut_attempt known a runs es y rest first whole
+        ]
 
   -- a run that goes on stays the last one
   pub still_attempt : (kept : Record) (a : Attempt) (rest cut : List Attempt) → IsAttempt p me kept a rest → AreFirstRuns cut rest
@@ -105,22 +133,13 @@ module _ (p : Parts) (me : Me) where
   still_attempt kept a rest [] attempt some = grind arith
   still_attempt kept a rest (b ∷ cut) attempt some = grind arith
 
-  -- a front of the entries of runs
-  cut_runs : (runs : List Attempt) (kept : Record) (es fs : List Entry) → AreRuns p me kept runs
-      → es ++ fs ≡ flat_map (entries_of_attempt me) runs → FrontOf runs kept es
-  cut_runs [] kept [] fs h e = ([], tt, refl, tt)
-  cut_runs [] kept (x ∷ es) fs h e = absurd cc
-  cut_runs (a ∷ runs) kept es fs (first, others) e =
-      elim (front_of_two (entries_of_attempt me a) (flat_map (entries_of_attempt me) runs) es fs e) [
-        | inl (rest, whole, more) ↦
-            let (cut, are, entries, some) = cut_runs runs (record_left a) rest fs others more in (
-              a ∷ cut,
-              (still_attempt kept a runs cut first some, are),
-              whole ∙ ap (λ l. entries_of_attempt me a ++ l) entries,
-              inl (refl, some),
-            )
-        | inr (y, rest, whole) ↦ cut_attempt kept a runs es y rest first whole
-      ]
+  -- so it is of runs over a store that keeps its record
+  runs_may_be_cut : MayBeCut p me (IsAttempt p me)
+  runs_may_be_cut = record {
+    runs = λ kept run rest h. h.1;
+    cut = λ kept run rest process mid h loaded runs. (loaded ∙ h.0, runs, refl);
+    still = still_attempt;
+  }
 
 -- ---- a log
 
@@ -128,7 +147,9 @@ pub log_front : (p : Parts) (group : Group) (runs : ℕ → List Attempt) (log m
     → HasRuns p group runs log
 log_front p group runs log more h =
     let me : ℕ → Me = λ i. record { node = i; group = group } in
-    let one : (i : ℕ) → FrontOf p (me i) (runs i) empty_record (entries_of i log) = λ i. cut_runs p (me i) (runs i) empty_record
+    let one : (i : ℕ) → FrontOf p (me i) (IsAttempt p (me i)) (λ _ a. record_left a) (runs_may_be_cut p (me i)) (runs i) empty_record
+    (entries_of i log) = λ i. cut_starts p (me i) (IsAttempt p (me i)) (λ _ a. record_left a) (runs_may_be_cut p (me i))
+    (runs i) empty_record
     _ (entries_of i more) (h.started i) (sym (filter-append (λ (e : Entry). e.node == i) log more) ∙ h.entries i) in (
       λ i. (one i).0,
       grind (arith, all_of_front, carried_front),

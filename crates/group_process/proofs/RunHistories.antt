@@ -15,7 +15,7 @@ use Rattle.group_protocol.specs.Protocol.{on_message}
 use Rattle.group_protocol.specs.ProposerRows.{on_campaign}
 use Rattle.group_protocol.specs.Tick.{on_tick}
 use Rattle.group_node.specs.NodeCalls.{Running, Makes, NodeCall, Refuses, call_of_campaign, call_of_press, call_of_start}
-use Rattle.group_wire.specs.Doings.{DoesAll, Doing, FailsDeed, IsMade, MakesOnWire, SendsNothing}
+use Rattle.group_wire.specs.Doings.{DoesAll, Doing, FailsDeed, IsMade, MakesOnWire, SendsNothing, record_after}
 use Rattle.group_wire.specs.Doings as wire
 use Rattle.group_world.specs.declared.event.Outcome.TheVariants.{Kept}
 use Rattle.group_world.specs.Event.{plan_of}
@@ -24,8 +24,8 @@ use Rattle.group_node.specs.Deeds.{Campaign, Crash, Deed, Hear, Idle, Press, Rel
 use Rattle.group_world.specs.declared.event.Done.TheVariants.{Applied, Fell}
 use Rattle.group_world.specs.Deeds.{DoesDeed, EndsCall, Left}
 use Rattle.group_world.specs.Processes.{Entry, IsHistory, left_by, quiet_entry}
-use Rattle.group_process.specs.Runs.{AreRuns, Attempt, FailsToStart, GoesOn, IsAttempt, IsOver, NodeRun, Stand, StandsWith, Starts, run_end, ends_by, entries_of_attempt, entry_by, failed_as, kept_after, record_after, node_after, node_by, node_left, record_by, record_left, record_of}
-use Rattle.group_wire.specs.Process.{started}
+use Rattle.group_process.specs.Runs.{AreRuns, Attempt, FailsToStart, GoesOn, IsAttempt, IsOver, NodeRun, Stand, StandsWith, Starts, run_end, ends_by, entries_of_attempt, entry_by, failed_as, kept_after, node_after, node_by, node_left, record_by, record_left}
+use Rattle.group_wire.specs.Process.{record_of, started}
 
 -- the node is up, with the record that it knows; its console was so before its run, or is no longer
 -- than what the run has released

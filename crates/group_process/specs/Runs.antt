@@ -10,21 +10,18 @@ use Rattle.paxos_msg.specs.Fits.{IsGroup, IsNode}
 use Rattle.paxos_msg.specs.declared.record.Change.TheVariants as change
 use Rattle.paxos_msg.specs.Records.{changed, empty_record}
 use Rattle.paxos_acceptor.specs.declared.me.Me.{Me}
-use Rattle.group_protocol.specs.Known.{Known}
-use Rattle.group_protocol.specs.Protocol.{on_message}
-use Rattle.group_protocol.specs.ProposerRows.{on_campaign}
 use Rattle.group_protocol.specs.States.{IsSize}
 use Rattle.group_node.specs.States.{input}
 use Rattle.group_rules.specs.Rules.{WorldState}
 use Rattle.group_node.specs.NodeCalls.{Running}
 use Rattle.group_wire.specs.Doings.{Doing}
-use Rattle.group_wire.specs.Process.{IsProcess, Process}
+use Rattle.group_wire.specs.Process.{IsProcess, Process, record_of}
 use Rattle.group_wire.specs.Turns.{released_of}
 use Rattle.group_world.specs.declared.event.Outcome.{Outcome}
 use Rattle.group_world.specs.declared.event.Outcome.TheVariants.{FailedNew, FailedOld, Kept}
 use Rattle.group_world.specs.Group.{member_at, new_world, world_state}
 use Rattle.group_world.specs.Member.{Member}
-use Rattle.group_node.specs.Deeds.{Campaign, Crash, Deed, Hear, Start}
+use Rattle.group_node.specs.Deeds.{Crash, Start}
 use Rattle.group_world.specs.Processes.{Entry, IsCarried, IsHistory, IsLog, after_log, entries_of, quiet_entry}
 
 -- ---- as entries
@@ -43,18 +40,6 @@ failed_as is_changed = if is_changed then FailedNew else FailedOld
 abbrev pub run_end : ℕ → Bool → Option Doing → List Entry
 run_end node is_changed None = quiet_entry node Crash ∷ []
 run_end node is_changed (Some d) = entry_by node (failed_as is_changed) d ∷ []
-
--- The record of a node that is up after a deed: only a message or a campaign may change it.
-abbrev pub record_after : Known → Deed → Record
-record_after n (Hear m) = (on_message n m.sender m.body).node.kept
-record_after n Campaign = (on_campaign n).node.kept
-record_after n _ = n.kept
-
--- The record at the end of a process whose node was `last`.
-abbrev pub record_of : Running → Bool → Option Doing → Record
-record_of last is_changed None = last.known.kept
-record_of last is_changed (Some d) =
-    if is_changed then record_after last.known d.deed else last.known.kept
 
 -- ---- runs, one after the other
 
@@ -133,12 +118,18 @@ IsAttempt p me kept (Starts run) rest =
 IsAttempt p me kept (FailsToStart loaded is_changed) rest =
     (loaded ≡ kept) × (loaded.starts ≢ LAST_START)
 
+-- The starts of a node, one after the other: each is so over what is known of its store before it,
+-- and `next` says what is known after it.
+abbrev pub AreInTurn : {K : Type 0} → (K → Attempt → List Attempt → Type 0) → (K → Attempt → K)
+    → K → List Attempt → Type 0
+AreInTurn so next known [] = Unit {0}
+AreInTurn so next known (a ∷ rest) = so known a rest × AreInTurn so next (next known a) rest
+
 -- The starts of a node, one after the other, over a store that keeps its record: each load gives
 -- what the start before it left, and the first one `kept`.
 -- Allows: a run that was killed at any deed.
 abbrev pub AreRuns : Parts → Me → Record → List Attempt → Type 0
-AreRuns p me kept [] = Unit {0}
-AreRuns p me kept (a ∷ rest) = IsAttempt p me kept a rest × AreRuns p me (record_left a) rest
+AreRuns p me = AreInTurn (IsAttempt p me) (λ _ a. record_left a)
 
 -- The record after these starts over a store that had the record `kept`.
 abbrev pub kept_after : Record → List Attempt → Record

@@ -12,6 +12,7 @@ use Rattle.group_protocol.specs.Packets.{Datagram, datagrams_of, Queue}
 use Rattle.group_protocol.specs.Known.{Known, Response, front, next_serial}
 use Rattle.group_protocol.specs.States.{Protocol}
 use Rattle.group_protocol.specs.ProposerRows.{last_round}
+use Rattle.paxos_msg.specs.Batches.{Record}
 use Rattle.paxos_msg.specs.declared.limits.TheConstants.{LAST_ROUND, LAST_SERIAL, PLACES}
 
 -- The node's fault for an acceptor's fault.
@@ -51,6 +52,8 @@ pub record Knows {S : Type 0} (old new : Protocol S) (n : Known) : Type 0 where
 -- A call that saves is not `Ok` under a plan. A fault of the device uses the plan up, and nothing
 -- else does. An honest store that fails at will fails only under a plan, and then has the record
 -- that the plan says.
+-- Of an honest store of a node that had not stopped, a restart may load the old record or the
+-- response's, whatever the answer, and whenever a crash comes.
 -- Source: Simple 2.5.
 -- Allows: a save that failed and was made.
 -- Forbids: a fault of the device in a call that saves nothing.
@@ -61,6 +64,8 @@ pub record Saves {S T : Type 0} (kind : StoreKind S) (old new : Protocol S) (don
       → IsOneOf (kind.state new.store).stored old.known.kept done.node.kept
   pub unsaved : kind.honest → OnErr result (¬ IsErrOf result Store
       → (kind.state new.store).stored ≡ (kind.state old.store).stored)
+  pub left : kind.honest → old.is_stopped ≡ false → (r : Record) → kind.may_load new.store r
+      → IsOneOf r old.known.kept done.node.kept
   pub idle : done.saves ≡ None → new.store ≡ old.store
   pub never : done.saves ≡ None → ¬ IsErrOf result Store
   pub unplanned : done.saves ≢ None → OnOk result ((kind.state old.store).plan ≡ None)

@@ -55,6 +55,8 @@ impl<S: Store> Protocol<S> {
     {
         promises_fit();
         rows_fit();
+        // It says that a restart may load no other record.
+        let _record = self.record();
         outbox.make_ready(1)?;
         let answer = match self.acceptor.prepare(ballot, from) {
             Ok(answer) => answer,
@@ -84,6 +86,8 @@ impl<S: Store> Protocol<S> {
     {
         votes_fit();
         rows_fit();
+        // It says that a restart may load no other record.
+        let _record = self.record();
         outbox.make_ready(1)?;
         let greater = greater_promise(self.acceptor.record().promised, ballot);
         let answer = match self.acceptor.accept(ballot, place, value) {

@@ -176,8 +176,11 @@ fn unless_refused(ballot: Ballot, proposer: Option<Proposer>) -> Option<Proposer
 {
     tests_are_exact();
     match proposer {
-        Some(proposer) if !proposer.is_under(ballot) => Some(proposer),
-        _ => None,
+        Some(proposer) if proposer.on_refused(ballot) => {
+            proposer.drop_ballot();
+            None
+        }
+        kept => kept,
     }
 }
 
@@ -219,6 +222,8 @@ impl<S: Store> Protocol<S> {
         accepts_fit();
         promises_fit();
         greater_ballots_are_promised();
+        // It says that a restart may load no other record.
+        let _record = self.record();
         let from = self.learner.known_front();
         match promise(&mut self.acceptor, ballot, from) {
             Ok(()) => (),

@@ -4,6 +4,7 @@ ghost use Rattle.std.specs.Prelude.{◌≡◌, ◌⊎◌, ◌+◌, ◌<◌, ◌�
 ghost use Rattle.paxos_msg.specs.declared.limits.TheConstants.{LAST_SERIAL};
 ghost use Rattle.group_protocol.specs.declared.limits.TheConstants.{MOST_WAITING, TICK_PACKETS};
 ghost use Rattle.paxos_acceptor.specs.Calls.{FailsOnlyWith};
+ghost use Rattle.paxos_acceptor.specs.Stores.{MayLoadNoMore, MayLoadOnly};
 ghost use Rattle.group_protocol.specs.Ranges.{IsInRange};
 ghost use Rattle.group_protocol.specs.Known.{on_typed, new_key, next_serial};
 ghost use Rattle.paxos_msg.specs.Datagrams.{Fits};
@@ -181,13 +182,15 @@ impl<S: Store> Protocol<S> {
         &self.learner
     }
 
-    /// Returns the acceptor's record. An honest store has the same one, unless a save has failed.
-    /// All that the node knows is in its ranges.
+    /// Returns the acceptor's record. An honest store has the same one, unless a save has failed,
+    /// and a restart may load no other of it. All that the node knows is in its ranges.
     pub fn record(&self) -> &Record
         ensures same { result.now ≡ self.now.known.kept }
         ensures ranges { IsInRange self.now.known }
         ensures stored { S.kind.honest → self.now.is_stopped ≡ false
             → (S.kind.state self.now.store).stored ≡ self.now.known.kept }
+        ensures loads { S.kind.honest → self.now.is_stopped ≡ false
+            → MayLoadOnly S.kind self.now.store self.now.known.kept }
     {
         self.acceptor.record()
     }
@@ -241,11 +244,12 @@ impl<S: Store> Protocol<S> {
     }
 
     /// Passes `plan` on to the store: how its next save fails, or `None`. A store that fails at
-    /// will then has this plan. The record of an honest store, the count of faults and the node
-    /// stay.
+    /// will then has this plan. The record of an honest store, what a restart may load of it, the
+    /// count of faults and the node stay.
     pub fn fail_next(&mut self, plan: Option<bool>)
         ensures same { S.kind.honest
             → (S.kind.state self.new.store).stored ≡ (S.kind.state self.old.store).stored }
+        ensures may { S.kind.honest → MayLoadNoMore S.kind self.old.store self.new.store }
         ensures plan { S.kind.fails_at_will → (S.kind.state self.new.store).plan ≡ plan }
         ensures faults { (S.kind.state self.new.store).faults
             ≡ (S.kind.state self.old.store).faults }
@@ -296,8 +300,12 @@ impl<S: Store> Protocol<S> {
     /// failed, and with `OutboxFull` if the outbox has too little room.
     fn let_in(&self, outbox: &Outbox) -> Result<(), NodeFault>
         ensures let_in { RefusesUnlessLet self.now outbox.now.packets result }
+        ensures loads { S.kind.honest → self.now.is_stopped ≡ false
+            → MayLoadOnly S.kind self.now.store self.now.known.kept }
         ensures others { FailsOnlyWith (NodeFault.Stopped ∷ NodeFault.OutboxFull ∷ []) result }
     {
+        // It says that a restart may load no other record.
+        let _record = self.record();
         if self.is_stopped() {
             return Err(NodeFault::Stopped);
         }
@@ -319,7 +327,7 @@ impl<S: Store> Protocol<S> {
         ensures others { MayFailToSave result }
     {
         let sender = view.sender;
-        // It says that an honest store has the node's record.
+        // It says that an honest store has the node's record, and no other for a restart.
         let _record = self.record();
         match &view.body {
             BodyView::Prepare { ballot, from } => self.on_prepare(*ballot, *from, outbox),
@@ -338,7 +346,7 @@ impl<S: Store> Protocol<S> {
                 self.on_refused(*ballot, *promised);
                 Ok(())
             }
-            BodyView::Submit { value } => self.on_submit(value, outbox),
+            BodyView::Submit { key } => self.on_submit(key, outbox),
             BodyView::Ask { from } => self.on_ask(sender, *from, outbox),
             BodyView::Tell { place, value } => self.on_tell(*place, *value),
         }

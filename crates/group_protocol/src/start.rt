@@ -1,6 +1,7 @@
 //! The start of a node's part in the protocol.
-ghost use Rattle.std.specs.Prelude.{◌≡◌, ◌<◌, [], ◌∷◌, IfErr, IfOk};
+ghost use Rattle.std.specs.Prelude.{◌≡◌, ◌<◌, [], ◌∷◌, false, IfErr, IfOk};
 ghost use Rattle.paxos_acceptor.specs.Calls.{IsAmong};
+ghost use Rattle.paxos_acceptor.specs.Stores.{MayLoadOnly};
 ghost use Rattle.group_protocol.specs.Known.{begun, on_start};
 ghost use Rattle.group_protocol.specs.Ranges.{IsInRange};
 ghost use Rattle.group_protocol.specs.Starting.{StartsOver};
@@ -27,6 +28,8 @@ impl<S: Store> Protocol<S> {
         requires me { acceptor.me ≡ config.now }
         requires counted { 0 < acceptor.kept.starts }
         requires none { waiting ≡ record { first = 1; bytes = [] } }
+        requires loads { S.kind.honest → acceptor.is_closed ≡ false
+            → MayLoadOnly S.kind acceptor.store acceptor.kept }
         ensures known { result.known ≡ begun config.now acceptor.kept }
         ensures works { result.is_stopped ≡ acceptor.is_closed }
         ensures store { result.store ≡ acceptor.store }

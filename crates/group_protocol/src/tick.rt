@@ -132,8 +132,8 @@ fn submit(batch: Option<Value>, me: Me, outbox: &mut Outbox)
     ensures packets { outbox.new.packets ≡ outbox.old.packets ++ datagrams_of me (submits batch) }
     ensures grows { GrowsBy 1 outbox.old outbox.new }
 {
-    if let Some(value) = batch {
-        outbox.put(me, To::All, Body::Submit { value });
+    if let Some(key) = batch {
+        outbox.put(me, To::All, Body::Submit { key });
     }
 }
 

@@ -1,10 +1,10 @@
 -- The lines of a script.
 use Rattle.std.proofs.Common.{◌≡◌, ℕ, ◌+◌, ◌-◌, ◌<◌, List, get_or, length, Option, Result, Ok, Err, add-one, arith}
 use Rattle.std.proofs.lemmas.Option.{slice_get-get_or}
-use Rattle.machine_run.specs.declared.run.IoFault.{IoFault}
+use Rattle.machine_run.specs.declared.run.RunIo.{RunIo}
 use Rattle.group_world.specs.declared.script.Line.{Line}
 use Rattle.group_world.specs.Group.{World}
-use Rattle.group_sim.specs.declared.simulation.Halted.{Halted}
+use Rattle.group_sim.specs.declared.simulation.Stopped.{Stopped}
 use Rattle.group_sim.specs.declared.simulation.ScriptHalt.{ScriptHalt}
 use Rattle.group_sim.specs.Texts.{Held}
 use Rattle.group_sim.specs.Moments.{AreDone, IsHalted, LineIsDone, Moment, PerformsLines, Says, halt_answer, first_moment, Task, HaltsAt}
@@ -38,6 +38,6 @@ line_halts w lines n number default mid b h old e less p q =
     grind (arith, halts_at (LineIsDone w.group.size lines) 2 n (first_moment w old) mid h b p (line_there _ lines default e less q))
 
 -- and this is its outcome: a refused event, a settle that is too long, or a failed write
-pub answers : {w : World} {lines : List Line} {old new : Held} (h : ScriptHalt) (number : ℕ) (r : Result (Option Halted) IoFault)
+pub answers : {w : World} {lines : List Line} {old new : Held} (h : ScriptHalt) (number : ℕ) (r : Result (Option Stopped) RunIo)
     → r ≡ halt_answer number h → IsHalted w lines number h old new → PerformsLines w lines old new r
 answers h number r e p = grind arith

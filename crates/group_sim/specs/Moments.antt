@@ -1,5 +1,5 @@
 -- What a script does to a group and to a writer, line by line.
-use Rattle.std.specs.Prelude.{◌≡◌, ◌⊎◌, ℕ, zero, suc, ◌+◌, ◌-◌, ◌<◌, ◌≤◌, codes, decimal, Bool, true, false, ◌&&◌, ◌==◌, List, [], ◌++◌, length, slice_get, Option, Some, is_some, option_map, unwrap_or, IfSome, IsNone, Result, Ok, Err, IfOk, OnErr}
+use Rattle.std.specs.Prelude.{◌≡◌, ◌⊎◌, ℕ, zero, suc, ◌+◌, ◌-◌, ◌<◌, ◌≤◌, codes, decimal, Bool, true, false, ◌&&◌, ◌==◌, List, [], ◌++◌, length, slice_get, Option, Some, None, is_some, option_map, unwrap_or, IfSome, IsNone, Result, Ok, Err, IfOk, OnErr}
 use Rattle.pcode_file.specs.Parts.{Parts}
 use Rattle.group_protocol.specs.declared.fault.NodeFault.{NodeFault}
 use Rattle.group_protocol.specs.Fault.{code_of}
@@ -13,6 +13,7 @@ use Rattle.group_world.specs.declared.event.Act.TheVariants.{Deliver, Run, Relea
 use Rattle.group_world.specs.declared.event.Done.{Done}
 use Rattle.group_world.specs.declared.event.Done.TheVariants.{Applied, Refused, Fell}
 use Rattle.group_world.specs.declared.event.Event.{Event}
+use Rattle.group_world.specs.declared.fault.WorldFault.{WorldFault}
 use Rattle.group_world.specs.declared.fault.WorldFault.TheVariants as fault
 use Rattle.group_world.specs.declared.script.Line.{Line}
 use Rattle.group_world.specs.declared.script.Line.TheVariants as line
@@ -21,12 +22,10 @@ use Rattle.group_world.specs.Event.{Goes, kept_event}
 use Rattle.group_world.specs.Group.{World, new_world}
 use Rattle.group_world.specs.Refusals.{IsRefused}
 use Rattle.machine_run.specs.Streams.{Borrowed}
-use Rattle.machine_run.specs.declared.run.IoFault.{IoFault}
-use Rattle.machine_run.specs.declared.run.IoFault.TheVariants.{Write}
+use Rattle.machine_run.specs.declared.run.RunIo.{RunIo}
+use Rattle.machine_run.specs.declared.run.RunIo.TheVariants.{Write}
 use Rattle.group_sim.specs.declared.limits.TheConstants.{DELIVERIES, SETTLE_STEPS}
-use Rattle.group_sim.specs.declared.simulation.HaltCause.{HaltCause}
-use Rattle.group_sim.specs.declared.simulation.HaltCause.TheVariants as cause
-use Rattle.group_sim.specs.declared.simulation.Halted.{Halted}
+use Rattle.group_sim.specs.declared.simulation.Stopped.{Stopped}
 use Rattle.group_sim.specs.declared.simulation.ScriptHalt.{ScriptHalt}
 use Rattle.group_sim.specs.declared.simulation.ScriptHalt.TheVariants as halt
 use Rattle.group_sim.specs.declared.simulation.Simulation.{Simulation}
@@ -124,8 +123,8 @@ abbrev pub HappensAt : ℕ → Event → Task
 HappensAt number e a (Ok x) b =
     (world : World) × (done : Done) × Goes a.world e done world
     × LeavesWorld a world (event_text number done) b
-HappensAt number e a (Err (halt.For (cause.Refused f))) b = IsRefused a.world e.act f × (b ≡ a)
-HappensAt number e a (Err (halt.For cause.TooLong)) b = ⊥
+HappensAt number e a (Err (halt.For (Some f))) b = IsRefused a.world e.act f × (b ≡ a)
+HappensAt number e a (Err (halt.For None)) b = ⊥
 HappensAt number e a (Err halt.Unwritten) b =
     (world : World) × (done : Done) × Goes a.world e done world
     × LeavesFront a world (event_text number done) b
@@ -141,7 +140,7 @@ is_meant (whom.One j) i = j == i
 -- If none is left, the settle is too long.
 abbrev pub Spends : ℕ → Act → Task
 Spends number act a r b =
-    ((a.left ≡ 0) × (r ≡ Err (halt.For cause.TooLong)) × (b ≡ a))
+    ((a.left ≡ 0) × (r ≡ Err (halt.For None)) × (b ≡ a))
     ⊎ ((0 < a.left) × HappensAt number (kept_event act) (record a { left = a.left - 1 }) r b)
 
 -- The delivery of message k to node i, if it is for that node and the node is up.
@@ -201,7 +200,7 @@ Shows size a (Err halt.Unwritten) b = LeavesFront a a.world (group_text a.world 
 
 -- The task of a line of this number.
 abbrev pub Says : ℕ → ℕ → Line → Task
-Says size number (line.Event e) = HappensAt number e
+Says size number (line.Act e) = HappensAt number e
 Says size number line.Settle = Settles number size
 Says size number line.Show = Shows size
 
@@ -237,15 +236,15 @@ pub record IsHalted (w : World) (lines : List Line) (number : ℕ) (h : ScriptHa
   pub written : end.written ≡ new
 
 -- The answer of a script that halts at a line.
-abbrev pub halt_answer : ℕ → ScriptHalt → Result (Option Halted) IoFault
-halt_answer number (halt.For why) = Ok (Some (record { line = number; cause = why }))
+abbrev pub halt_answer : ℕ → ScriptHalt → Result (Option Stopped) RunIo
+halt_answer number (halt.For why) = Ok (Some (record { line = number; fault = why }))
 halt_answer number halt.Unwritten = Err Write
 
 -- A script whose group cannot be made at line 1: the size is wrong, or memory runs out.
-abbrev pub IsNoGroup : ℕ → ℕ → HaltCause → Type 0
+abbrev pub IsNoGroup : ℕ → ℕ → Option WorldFault → Type 0
 IsNoGroup size number why =
-    (number ≡ 1) × (((why ≡ cause.Refused fault.Size) × ¬ IsSize size)
-    ⊎ ((why ≡ cause.Refused fault.Memory) × IsSize size))
+    (number ≡ 1) × (((why ≡ Some fault.Size) × ¬ IsSize size)
+    ⊎ ((why ≡ Some fault.Memory) × IsSize size))
 
 -- What the lines of a script do on its group, and what is known of the writer before and after.
 -- `Ok(None)` says that each was done, in order; a line and a cause, that this line halted for just
@@ -253,9 +252,9 @@ IsNoGroup size number why =
 -- line halted since a write failed.
 -- Forbids: a halt whose cause is made up, and a line that is done after it.
 pub record PerformsLines (w : World) (lines : List Line) (old new : Held)
-    (result : Result (Option Halted) IoFault) : Type 0 where
+    (result : Result (Option Stopped) RunIo) : Type 0 where
   pub done : IfOk result (λ answer. IsNone answer → IsScriptDone w lines old new)
   pub halted : IfOk result (λ answer. IfSome answer
-      (λ halted. (IsNoGroup w.group.size halted.line halted.cause × (new ≡ old))
-      ⊎ IsHalted w lines halted.line (halt.For halted.cause) old new))
+      (λ stopped. (IsNoGroup w.group.size stopped.line stopped.fault × (new ≡ old))
+      ⊎ IsHalted w lines stopped.line (halt.For stopped.fault) old new))
   pub unwritten : OnErr result ((number : ℕ) × IsHalted w lines number halt.Unwritten old new)

@@ -18,4 +18,4 @@ mod text;
 
 pub use refusal::{LineFault, ScriptRefusal};
 pub use script_file::sim_file;
-pub use simulation::{HaltCause, Halted, sim};
+pub use simulation::{Stopped, sim};

@@ -1,5 +1,5 @@
 //! The refusals of the command `sim`.
-use crate::simulation::{HaltCause, Halted};
+use crate::simulation::Stopped;
 use group_world::{ScriptFault, WorldFault};
 use machine_run::MachineRefusal;
 use thiserror::Error;
@@ -39,42 +39,43 @@ impl From<MachineRefusal> for ScriptRefusal {
 }
 
 impl From<ScriptFault> for ScriptRefusal {
-    ghost use Rattle.std.specs.Prelude.{◌≡◌, ℕ};
+    ghost use Rattle.std.specs.Prelude.{◌≡◌, false, true};
     ghost use Rattle.group_world.specs.declared.fault.WorldFault.TheVariants as world;
-    ghost use Rattle.group_world.specs.declared.script.ScriptFault.TheVariants as script;
     ghost use Rattle.group_sim.specs.declared.refusal.LineFault.TheVariants.{Unread, World};
     ghost use Rattle.group_sim.specs.declared.refusal.ScriptRefusal.TheVariants.{Line};
 
     ghost from_gives = { λ fault r.
-        ((line : ℕ) → fault ≡ script.Memory line → r ≡ Line line (World world.Memory))
-        × ((line : ℕ) → fault ≡ script.Unread line → r ≡ Line line Unread) };
+        (fault.memory ≡ true → r ≡ Line fault.line (World world.Memory))
+        × (fault.memory ≡ false → r ≡ Line fault.line Unread) };
 
     fn from(fault: ScriptFault) -> ScriptRefusal {
-        let (line, fault) = match fault {
-            ScriptFault::Unread(line) => (line, LineFault::Unread),
-            ScriptFault::Memory(line) => (line, LineFault::World(WorldFault::Memory)),
-        };
-        ScriptRefusal::Line { line, fault }
+        ScriptRefusal::Line {
+            line: fault.line,
+            fault: if fault.memory {
+                LineFault::World(WorldFault::Memory)
+            } else {
+                LineFault::Unread
+            },
+        }
     }
 }
 
-impl From<Halted> for ScriptRefusal {
-    ghost use Rattle.std.specs.Prelude.{◌≡◌};
+impl From<Stopped> for ScriptRefusal {
+    ghost use Rattle.std.specs.Prelude.{◌≡◌, None, Some};
     ghost use Rattle.group_world.specs.declared.fault.WorldFault.{WorldFault};
-    ghost use Rattle.group_sim.specs.declared.simulation.HaltCause.TheVariants as cause;
     ghost use Rattle.group_sim.specs.declared.refusal.LineFault.TheVariants.{TooLong, World};
     ghost use Rattle.group_sim.specs.declared.refusal.ScriptRefusal.TheVariants.{Line};
 
-    ghost from_gives = { λ halted r.
-        ((fault : WorldFault) → halted.cause ≡ cause.Refused fault
-        → r ≡ Line halted.line (World fault))
-        × (halted.cause ≡ cause.TooLong → r ≡ Line halted.line TooLong) };
+    ghost from_gives = { λ stopped r.
+        ((fault : WorldFault) → stopped.fault ≡ Some fault
+        → r ≡ Line stopped.line (World fault))
+        × (stopped.fault ≡ None → r ≡ Line stopped.line TooLong) };
 
-    fn from(halted: Halted) -> ScriptRefusal {
-        let line = halted.line;
-        let fault = match halted.cause {
-            HaltCause::Refused(fault) => LineFault::World(fault),
-            HaltCause::TooLong => LineFault::TooLong,
+    fn from(stopped: Stopped) -> ScriptRefusal {
+        let line = stopped.line;
+        let fault = match stopped.fault {
+            Some(fault) => LineFault::World(fault),
+            None => LineFault::TooLong,
         };
         ScriptRefusal::Line { line, fault }
     }

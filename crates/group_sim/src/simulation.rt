@@ -12,32 +12,25 @@ use crate::showing::write_group;
 use crate::text::{put, put_number};
 use group_node::{NodeFault, To};
 use group_world::{Act, Done, Event, Line, Outcome, Script, World, WorldFault};
-use machine_run::{ByteWriter, IoFault, WriteFault};
+use machine_run::{ByteWriter, RunIo, WriteFault};
 use pcode_ops::Program;
 use std::alloc::Global;
 
-/// Why a script halted at a line.
+/// The line at which a script stopped, and why.
 #[derive(Clone, Copy, Debug, PartialEq, Eq)]
-pub enum HaltCause {
-    /// The world refused an event of the line, or, at line 1, the group.
-    Refused(WorldFault),
-    /// The line is a settle that has more than 10,000 deliveries to make.
-    TooLong,
-}
-
-/// The line at which a script halted, and why.
-#[derive(Clone, Copy, Debug, PartialEq, Eq)]
-pub struct Halted {
+pub struct Stopped {
     /// The number of the line, from 1.
     pub line: usize,
-    pub cause: HaltCause,
+    /// Why the world refused an event of the line, or, at line 1, the group. `None` means that the
+    /// line is a settle that has more than 10,000 deliveries to make.
+    pub fault: Option<WorldFault>,
 }
 
 /// Why a script doesn't go on after a line.
 #[derive(Clone, Copy, Debug, PartialEq, Eq)]
 enum ScriptHalt {
-    /// The line itself is the cause.
-    For(HaltCause),
+    /// The line itself is the cause: the fault of what it asks for, or a settle that is too long.
+    For(Option<WorldFault>),
     /// A write failed, or took nothing.
     Unwritten,
 }
@@ -108,7 +101,7 @@ impl Simulation<'_> {
     {
         let done = match self.world.apply(event) {
             Ok(done) => done,
-            Err(fault) => return Err(ScriptHalt::For(HaltCause::Refused(fault))),
+            Err(fault) => return Err(ScriptHalt::For(Some(fault))),
         };
         tell(writer, line, done).or(Err(ScriptHalt::Unwritten))
     }
@@ -152,7 +145,7 @@ impl Simulation<'_> {
             return Ok(());
         }
         if self.left == 0 {
-            return Err(ScriptHalt::For(HaltCause::TooLong));
+            return Err(ScriptHalt::For(None));
         }
         self.left -= 1;
         self.go_on(writer, line, Act::Deliver(message, node))
@@ -293,7 +286,7 @@ impl Simulation<'_> {
             (Says self.old.size number line.now) self writer result }
     {
         match line {
-            Line::Event(event) => self.happen(writer, number, event),
+            Line::Act(event) => self.happen(writer, number, event),
             Line::Settle => self.settle(writer, number),
             Line::Show => self.show(writer),
         }
@@ -301,17 +294,17 @@ impl Simulation<'_> {
 }
 
 /// Returns the answer of a script that halts at a line.
-fn halted_at(line: usize, halt: ScriptHalt) -> Result<Option<Halted>, IoFault>
+fn halted_at(line: usize, halt: ScriptHalt) -> Result<Option<Stopped>, RunIo>
     ensures { result ≡ halt_answer line halt }
 {
     match halt {
-        ScriptHalt::For(cause) => Ok(Some(Halted { line, cause })),
-        ScriptHalt::Unwritten => Err(IoFault::Write),
+        ScriptHalt::For(fault) => Ok(Some(Stopped { line, fault })),
+        ScriptHalt::Unwritten => Err(RunIo::Write),
     }
 }
 
 /// Performs `script` on a new group that runs `program`. At `Ok(None)` each line was done, in
-/// order. Else a line halted for just the cause returned, after all before it. Line 1 halts with
+/// order. Else a line halted for just the fault returned, after all before it. Line 1 halts with
 /// `Size` exactly if the size is even or above 9, else only with `Memory`; then nothing is written.
 /// `Write` means that a write failed.
 ///
@@ -329,16 +322,16 @@ pub fn sim<W: ByteWriter>(
     program: &Program,
     script: &Script,
     writer: &mut W,
-) -> Result<Option<Halted>, IoFault>
+) -> Result<Option<Stopped>, RunIo>
     ensures line { IfOk result
         (λ answer. IfSome answer
-        (λ halted. (1 ≤ halted.line) × (halted.line ≤ length script.now.lines.items + 1))) }
-    ensures write { IfErr result (λ fault. fault ≡ IoFault.Write) }
+        (λ stopped. (1 ≤ stopped.line) × (stopped.line ≤ length script.now.lines.items + 1))) }
+    ensures write { IfErr result (λ fault. fault ≡ RunIo.Write) }
     ensures performs { PerformsLines (group_of program.now script.now) script.now.lines.items
         (held W.contents W.write_faults writer.old) (held W.contents W.write_faults writer.new)
         result }
     ensures size { result
-        ≡ Ok (Some (record { line = 1; cause = HaltCause.Refused WorldFault.Size }))
+        ≡ Ok (Some (record { line = 1; fault = Some WorldFault.Size }))
         ↔ ¬ IsSize script.now.size }
 {
     let size = script.size;
@@ -349,7 +342,7 @@ pub fn sim<W: ByteWriter>(
             passed: 0,
             left: 0,
         },
-        Err(fault) => return halted_at(1, ScriptHalt::For(HaltCause::Refused(fault))),
+        Err(fault) => return halted_at(1, ScriptHalt::For(Some(fault))),
     };
     let mut number = 1;
     for line in script.lines.iter() {

@@ -1,8 +1,8 @@
 //! Tests of the crates of the group, apart for check time only: a crate with tests is proved twice.
 //!
 //! They are of what the built program cannot show: the packets and refusals of a node, wires that
-//! fail, and lists of events. `tests/stops` and `tests/cases` try saves that fail and scripts. This
-//! crate has nothing else.
+//! fail, saves that fail, and lists of events. `tests/stops` tries the same saves by a script of
+//! `sim`, after each event, and `tests/cases` other scripts. This crate has nothing else.
 //!
 //! More than half of its check is the borrow checker's part, whatever contracts say: some 0.3
 //! seconds for each call. A function in which `?` may drop several things takes much more, so a
@@ -14,6 +14,8 @@
 mod node;
 #[cfg(test)]
 mod program;
+#[cfg(test)]
+mod stops;
 #[cfg(test)]
 mod wires;
 #[cfg(test)]

@@ -3,7 +3,7 @@ use Rattle.std.specs.Prelude.{◌≡◌, ◌⊎◌}
 use Rattle.group_protocol.specs.declared.fault.NodeFault.TheVariants.{SerialSpent, Store}
 use Rattle.group_protocol.specs.declared.fault.NodeFault.TheVariants as fault
 use Rattle.machine_run.specs.declared.refusal.MachineRefusal.TheVariants.{Run}
-use Rattle.machine_run.specs.declared.run.IoFault.TheVariants.{Memory, Write}
+use Rattle.machine_run.specs.declared.run.RunIo.TheVariants.{Memory, Write}
 use Rattle.group_udp.specs.declared.fault.GroupFault.{GroupFault}
 use Rattle.group_udp.specs.declared.fault.GroupFault.TheVariants.{Machine}
 use Rattle.group_udp.specs.declared.fault.GroupFault.TheVariants as group

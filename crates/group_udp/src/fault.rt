@@ -1,6 +1,6 @@
 //! Why a group or a node on UDP ends early.
 use group_node::{NodeFault, StartRefused};
-use machine_run::{IoFault, MachineRefusal};
+use machine_run::{MachineRefusal, RunIo};
 use std::alloc::{AllocError, AllocFailed};
 use thiserror::Error;
 
@@ -30,14 +30,14 @@ impl From<MachineRefusal> for GroupFault {
     }
 }
 
-impl From<IoFault> for GroupFault {
+impl From<RunIo> for GroupFault {
     ghost use Rattle.std.specs.Prelude.{◌≡◌};
     ghost use Rattle.machine_run.specs.declared.refusal.MachineRefusal.TheVariants.{Run};
     ghost use Rattle.group_udp.specs.declared.fault.GroupFault.TheVariants.{Machine};
 
     ghost from_gives = { λ fault e. e ≡ Machine (Run fault) };
 
-    fn from(fault: IoFault) -> GroupFault {
+    fn from(fault: RunIo) -> GroupFault {
         GroupFault::Machine(MachineRefusal::Run(fault))
     }
 }
@@ -71,7 +71,7 @@ impl From<AllocError> for GroupFault {
     ghost from_gives = { λ _ e. e ≡ no_memory };
 
     fn from(_: AllocError) -> GroupFault {
-        GroupFault::from(IoFault::Memory)
+        GroupFault::from(RunIo::Memory)
     }
 }
 
@@ -82,6 +82,6 @@ impl<T: Drop> From<AllocFailed<T>> for GroupFault {
     ghost from_gives = { λ _ e. e ≡ no_memory };
 
     fn from(_: AllocFailed<T>) -> GroupFault {
-        GroupFault::from(IoFault::Memory)
+        GroupFault::from(RunIo::Memory)
     }
 }

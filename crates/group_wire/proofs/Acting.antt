@@ -1,5 +1,5 @@
 -- A turn, a receive and a campaign as deeds.
-use Rattle.std.proofs.Common.{◌≡◌, ◌≢◌, ◌+◌, ◌<◌, ◌⊎◌, ℕ, Bool, true, false, List, [], ◌∷◌, ◌++◌, Option, Some, None, IfNone, OnSome, option_map, slice_get, Result, Ok, Err, inl, inr, refl, sym, ap, subst, ◌∙◌, append-nil, append_assoc, arith}
+use Rattle.std.proofs.Common.{◌≡◌, ◌≢◌, ◌+◌, ◌<◌, ◌⊎◌, ◌↔◌, ℕ, Bool, true, false, List, [], ◌∷◌, ◌++◌, Option, Some, None, IfNone, OnSome, option_map, slice_get, Result, Ok, Err, inl, inr, refl, sym, ap, subst, ◌∙◌, append-nil, append_assoc, arith}
 use Rattle.std.proofs.lemmas.Bool.Decides.{nat_tests}
 use Rattle.std.proofs.lemmas.Grind.{flat_map-append}
 use Rattle.std.proofs.lemmas.List.Elements.{All-head, All-tail}
@@ -31,6 +31,13 @@ use Rattle.group_wire.proofs.Hearing.{after_came}
 
 -- ---- deeds, one after the other
 
+-- a node that stops only where this happened, which it did not
+still : (a b : Bool) {F : Type 0} → (a ≡ true) ↔ ((b ≡ true) ⊎ F) → ¬ F → a ≡ b
+still true true h none = refl
+still false false h none = refl
+still true false h none = elim (h.0 refl) [ inl was ↦ absurd cc | inr failed ↦ absurd (none failed) ]
+still false true h none = let is : false ≡ true = h.1 (inl refl) in absurd cc
+
 -- the prompts of some deeds, and then of others
 prompts_then : (ds es : List Doing) {p q : List Deed} → prompts_of ds ≡ p → prompts_of es ≡ q → prompts_of (ds ++ es) ≡ p ++ q
 prompts_then ds es first second = flat_map-append (λ (d : Doing). prompt_in d.deed) ds es ∙ rw (first, second) refl
@@ -51,6 +58,7 @@ acts_then {S} {old} {mid} {new} {from} {via} {to} (ds, first, ps) (es, second, q
     does = does_then _ (running old) ds es (running mid) (running new) first.does
         (subst (λ (x : Me). DoesAll x (running mid) es (running new)) first.me second.does);
     traffic = grown_twice from via to _ _ _ first.traffic (rw first.me at second.traffic) (passed_then old.protocol.known.me ds es);
+    stays = second.stays ∙ first.stays;
   },
   prompts_then ds es ps qs,
 )
@@ -119,6 +127,11 @@ nothing_passed (Some t) = ap Some (sym (append-nil t))
 abbrev turn_run : Doing
 turn_run = record { deed = Run TURN_STEPS; given = []; sent = []; typed = [] }
 
+-- it has stopped then exactly if it had before, which it had not
+turn_stops : {S : Type 0} {kind : StoreKind S} {old new : NodeState S} {from to : Option Traffic} (done : Turned)
+    → HasTurned kind old new from to (Ok done) → (new.protocol.is_stopped ≡ true) ↔ ((old.protocol.is_stopped ≡ true) ⊎ ⊥)
+turn_stops done h = grind (arith, h.stops, h.stopped)
+
 -- the deeds of a turn that was not refused
 turn_acts : {S : Type 0} {kind : StoreKind S} {old new : NodeState S} {from to : Option Traffic} (done : Turned)
     → HasTurned kind old new from to (Ok done) → IsReplay (input new.protocol.known) new.progress
@@ -143,13 +156,15 @@ turn_acts {S} {kind} {old} {new} {from} {to} done h replay =
         me = h.me;
         does = does_then me w ds (turn_run ∷ []) ticked (running new) all (running new, runs, refl);
         traffic = grown_twice from to to (transfers_of me ds) [] _ h.plays.traffic (nothing_passed to) (passed_then me ds _);
+        stays = still new.protocol.is_stopped old.protocol.is_stopped (turn_stops done h) (λ f. absurd f);
       },
       prompts_then ds (turn_run ∷ []) unprompted refl,
     )
 
 -- receives the last of which was refused
 hears_fails : {S : Type 0} (kind : StoreKind S) (came : List Arrival) (ending : Ending) {old new : NodeState S} {from to : Option Traffic}
-    → EndsAt ending (HasFailedAt kind new) → HearsSome came ending old new from to → Fails old new from to []
+    → EndsAt ending (HasFailedAt kind new) → HearsSome came ending old new from to
+    → Fails kind old new from to []
 hears_fails kind came GoesOn ends h = absurd ends
 hears_fails kind came NoneCame ends h = absurd ends
 hears_fails kind came (Refuses bytes m) {old} {new} ends h =
@@ -162,6 +177,7 @@ hears_fails kind came (Refuses bytes m) {old} {new} ends h =
         does = rw (h.known, h.progress) (receives_does me w came h.arrivals.fates);
         fails = (bytes, h.arrivals.last, refl, (refl, refl), ends.0);
         traffic = h.traffic;
+        leaves = ends.2;
       },
       hearing_unprompted me w.known came (Refuses bytes m),
     )
@@ -169,7 +185,7 @@ hears_fails kind came (Refuses bytes m) {old} {new} ends h =
 -- the deeds of a turn, by its answer
 pub turn_acts_by : {S : Type 0} {kind : StoreKind S} {old new : NodeState S} {from to : Option Traffic}
     (result : Result Turned NodeFault) → HasTurned kind old new from to result
-    → IsReplay (input new.protocol.known) new.progress → ActsBy old new from to (Run TURN_STEPS ∷ []) [] result
+    → IsReplay (input new.protocol.known) new.progress → ActsBy kind old new from to (Run TURN_STEPS ∷ []) [] result
 turn_acts_by (Ok done) h replay = turn_acts done h replay
 turn_acts_by {kind = kind} (Err Store) h replay = hears_fails kind h.came h.ending (h.hears.fault refl) (record {
   arrivals = h.plays.arrivals;
@@ -185,8 +201,9 @@ turn_acts_by (Err e) h replay = elim h.others [ inl stopped ↦ absurd cc | inr 
 
 -- receives of which none was refused
 hears_acts : {S : Type 0} {came : List Arrival} {ending : Ending} {old new : NodeState S} {from to : Option Traffic}
-    → HearsSome came ending old new from to → (ending ≡ NoneCame) ⊎ (ending ≡ GoesOn) → HasActed old new from to []
-hears_acts {came = came} {ending} {old} h ended =
+    → HearsSome came ending old new from to → (ending ≡ NoneCame) ⊎ (ending ≡ GoesOn)
+    → new.protocol.is_stopped ≡ old.protocol.is_stopped → HasActed old new from to []
+hears_acts {came = came} {ending} {old} h ended stays =
     let me : Me = old.protocol.known.me in
     let w : Running = running old in (
       hearing me w.known came ending,
@@ -194,6 +211,7 @@ hears_acts {came = came} {ending} {old} h ended =
         me = h.me;
         does = rw (h.known, h.progress) (hearing_does me w came ending h.arrivals.fates ended);
         traffic = h.traffic;
+        stays = stays;
       },
       hearing_unprompted me w.known came ending,
     )
@@ -205,8 +223,10 @@ receive_ends heard came ending told = grind arith
 
 -- the deeds of a receive, by its answer
 pub hear_acts_by : {S : Type 0} {kind : StoreKind S} {old new : NodeState S} {from to : Option Traffic}
-    (result : Result Received NodeFault) → HasHeard kind old new from to result → ActsBy old new from to [] [] result
-hear_acts_by (Ok heard) h = hears_acts h.hears (receive_ends heard h.came h.ending h.tells)
+    (result : Result Received NodeFault) → HasHeard kind old new from to result → ActsBy kind old new from to [] [] result
+hear_acts_by {old = old} {new} (Ok heard) h =
+    hears_acts h.hears (receive_ends heard h.came h.ending h.tells)
+    (still new.protocol.is_stopped old.protocol.is_stopped h.refused.stops (λ f. absurd cc))
 hear_acts_by {kind = kind} (Err Store) h = hears_fails kind h.came h.ending (h.fault refl) h.hears
 hear_acts_by (Err Stopped) h = tt
 hear_acts_by (Err e) h = elim h.refused.others [ inl stopped ↦ absurd cc | inr store ↦ absurd cc ]
@@ -215,8 +235,8 @@ hear_acts_by (Err e) h = elim h.refused.others [ inl stopped ↦ absurd cc | inr
 
 -- nothing was done
 pub nothing_done : {S : Type 0} {old new : NodeState S} {from to : Option Traffic} → new.protocol.known ≡ old.protocol.known
-    → new.progress ≡ old.progress → to ≡ from → HasActed old new from to []
-nothing_done {old = old} {new} {from} known progress traffic = grind (arith, nothing_passed from)
+    → new.progress ≡ old.progress → to ≡ from → new.protocol.is_stopped ≡ old.protocol.is_stopped → HasActed old new from to []
+nothing_done {old = old} {new} {from} known progress traffic stays = grind (arith, nothing_passed from)
 
 -- where a round and a place are left a campaign begins
 campaign_made : (n : Known) → last_round n < LAST_ROUND → front n ≢ PLACES → call_of_campaign n ≡ call.Makes (on_campaign n) []
@@ -224,7 +244,7 @@ campaign_made n spare place = grind (arith, nat_tests)
 
 pub campaign_acts_by : {S : Type 0} {kind : StoreKind S} {old new : NodeState S} {from to : Option Traffic}
     (result : Result (Unit {0}) NodeFault) → HasCampaigned kind old new from to result
-    → ActsBy old new from to (Campaign ∷ []) (Campaign ∷ []) result
+    → ActsBy kind old new from to (Campaign ∷ []) (Campaign ∷ []) result
 campaign_acts_by {old = old} {new} (Ok x) h =
     let n : Known = old.protocol.known in
     let place : front n ≢ PLACES = grind (arith, h.places, h.stopped, h.spare) in (
@@ -237,6 +257,7 @@ campaign_acts_by {old = old} {new} (Ok x) h =
           refl,
         );
         traffic = rw append-nil h.sends;
+        stays = still new.protocol.is_stopped old.protocol.is_stopped h.stops (λ f. absurd cc);
       },
       refl,
     )
@@ -250,11 +271,13 @@ campaign_acts_by {old = old} {from = from} (Err Store) h =
         does = λ t. record { known = h.err t; progress = h.progress t };
         fails = rw (h.err, campaign_made old.protocol.known spare place) (tt, refl, (refl, refl));
         traffic = h.unsent ∙ nothing_passed from;
+        leaves = λ honest r may. rw (← h.err) at (h.saves.left honest (grind (arith, h.stopped)) r may);
       },
       refl,
     )
 campaign_acts_by (Err Stopped) h = tt
-campaign_acts_by (Err e) h = nothing_done h.err h.progress h.unsent
+campaign_acts_by {old = old} {new} (Err e) h =
+    nothing_done h.err h.progress h.unsent (still new.protocol.is_stopped old.protocol.is_stopped h.stops (λ f. absurd cc))
 
 -- ---- a release
 
@@ -264,7 +287,7 @@ pub release_acts : {S : Type 0} (old new : NodeState S) (from : Option Traffic) 
     → OnSome result (new.progress ≡ record old.progress { released = old.progress.released + 1 })
     → IfNone result (new ≡ old) → new.protocol ≡ old.protocol → HasActed old new from from []
 release_acts old new from None result waits is some none protocol =
-    let same : new ≡ old = rw is at none in nothing_done (cc) (cc) refl
+    let same : new ≡ old = rw is at none in nothing_done (cc) (cc) refl (cc)
 release_acts old new from (Some byte) result waits is some none protocol =
     let progress : new.progress ≡ record old.progress { released = old.progress.released + 1 } = rw is at some in (
       record { deed = Release; given = []; sent = []; typed = [] } ∷ [],
@@ -272,6 +295,7 @@ release_acts old new from (Some byte) result waits is some none protocol =
         me = cc;
         does = (running new, (byte, waits, cc, refl, (refl, refl)), refl);
         traffic = nothing_passed from;
+        stays = cc;
       },
       refl,
     )
@@ -279,9 +303,9 @@ release_acts old new from (Some byte) result waits is some none protocol =
 -- ---- one call after another
 
 -- deeds, and then a call at which a save fails
-pub fails_then : {S : Type 0} {old mid new : NodeState S} {from via to : Option Traffic} {p q : List Deed} → HasActed old mid from via p
-    → Fails mid new via to q → Fails old new from to (p ++ q)
-fails_then {S} {old} {mid} {new} {from} {via} {to} (ds, first, ps) (es, last, second, qs) = (
+pub fails_then : {S : Type 0} {kind : StoreKind S} {old mid new : NodeState S} {from via to : Option Traffic} {p q : List Deed}
+    → HasActed old mid from via p → Fails kind mid new via to q → Fails kind old new from to (p ++ q)
+fails_then {S} {kind} {old} {mid} {new} {from} {via} {to} (ds, first, ps) (es, last, second, qs) = (
   ds ++ es,
   last,
   record {
@@ -291,6 +315,7 @@ fails_then {S} {old} {mid} {new} {from} {via} {to} (ds, first, ps) (es, last, se
     fails = rw first.me at second.fails;
     traffic = rw append_assoc
         (grown_twice from via to _ _ _ first.traffic (rw first.me at second.traffic) (passed_then old.protocol.known.me ds _));
+    leaves = second.leaves;
   },
   rw append_assoc (prompts_then ds (es ++ last ∷ []) ps qs),
 )

@@ -1,14 +1,16 @@
 -- Messages that a node hears one after the other.
-use Rattle.std.proofs.Common.{rules, None, ◌≡◌, ◌≢◌, ◌+◌, ◌≤◌, ℕ, Bool, true, List, [], ◌∷◌, ◌++◌, length, Option, Some, Result, Ok, Err, refl, arith, append-nil, append_assoc}
+use Rattle.std.proofs.Common.{rules, None, ◌≡◌, ◌≢◌, ◌+◌, ◌≤◌, ℕ, Bool, false, true, List, [], ◌∷◌, ◌++◌, length, Option, Some, Result, Ok, Err, refl, arith, append-nil, append_assoc}
 use Rattle.std.proofs.lemmas.List.Elements.{All-append, All-cons, All-nil, filter_map-append}
 use Rattle.std.proofs.lemmas.List.Sums.{sum_by-append}
 use Rattle.std.proofs.lemmas.Grind.{common_steps}
 use Rattle.paxos_msg.specs.declared.message.Group.{Group}
-use Rattle.paxos_msg.specs.Batches.{Msg}
+use Rattle.paxos_msg.specs.Batches.{Msg, Record}
 use Rattle.paxos_acceptor.specs.Stores.{IsOneOf, StoreKind}
 use Rattle.group_protocol.specs.declared.fault.NodeFault.{NodeFault}
 use Rattle.group_protocol.specs.declared.fault.NodeFault.TheVariants.{Store}
+use Rattle.group_protocol.specs.Calls.{RefusesUnlessLet}
 use Rattle.group_protocol.specs.Protocol.{on_message}
+use Rattle.group_protocol.specs.States.{Protocol}
 use Rattle.group_protocol.specs.Known.{Known}
 use Rattle.group_protocol.specs.Packets.{Datagram, datagrams_of}
 use Rattle.group_node.specs.States.{NodeState}
@@ -77,6 +79,11 @@ hears_then {S} {came} {later} {ending} {old} stays first second =
 
 -- ---- one receive
 
+-- a save fails only of a node that had not stopped
+pub was_open : {S T : Type 0} {old : Protocol S} {before : List Datagram} {result : Result T NodeFault}
+    → RefusesUnlessLet old before result → result ≡ Err Store → old.is_stopped ≡ false
+was_open h failed = grind (arith, h.stopped)
+
 -- what it leaves, over the node's own group
 abbrev pub HearsThere : {S : Type 0} → StoreKind S → NodeState S → NodeState S
     → Option Traffic → Option Traffic → Result Received NodeFault → Type 0
@@ -115,13 +122,15 @@ pub refuses_one : {S : Type 0} (kind : StoreKind S) {g : Group} {old new : NodeS
     → (fault ≡ Store → (on_message old.protocol.known m.sender m.body).saves ≢ None)
     → (kind.honest → fault ≡ Store → IsOneOf (kind.state new.protocol.store).stored old.protocol.known.kept
     (on_message old.protocol.known m.sender m.body).node.kept)
+    → (kind.honest → fault ≡ Store → (r : Record) → kind.may_load new.protocol.store r
+    → IsOneOf r old.protocol.known.kept (on_message old.protocol.known m.sender m.body).node.kept)
     → HearsThere kind old new from to result
-refuses_one kind from to bytes m fault result group spelled known progress traffic told saves device = (
+refuses_one kind from to bytes m fault result group spelled known progress traffic told saves device leaves = (
   [],
   Refuses bytes m,
   grind (arith, common_steps, All-nil),
   rw told (refl, tt),
-  λ failed. rw known (saves (cc), λ is_honest. device is_honest (cc)),
+  λ failed. rw known (saves (cc), λ is_honest. device is_honest (cc), λ is_honest. leaves is_honest (cc)),
 )
 
 -- ---- several receives

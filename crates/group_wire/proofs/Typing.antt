@@ -74,6 +74,7 @@ typing_acts {old = old} {new} h =
           me = ap (λ (n : Known). n.me) h.known;
           does = rw (h.known, h.progress) (pressing_does me w h.typed h.room);
           traffic = nothing_passed passed_before ∙ ap (grown passed_before) (sym (pressing_passes me w.known h.typed));
+          stays = h.same_stop;
         },
         pressing_prompts w.known h.typed,
       ),

@@ -1,8 +1,9 @@
 -- The deeds of a node on its wire, each with what passed over the wire in it, and in which order.
 use Rattle.std.specs.Prelude.{◌≡◌, ◌≢◌, ℕ, ◌+◌, ◌<◌, Bool, if◌then◌else◌, List, [], ◌∷◌, ◌++◌, flat_map, map, Option, Some, None, Result, Ok, Err, slice_get}
 use Rattle.paxos_msg.specs.declared.value.Value.{Value}
-use Rattle.paxos_msg.specs.Batches.{Msg}
+use Rattle.paxos_msg.specs.Batches.{Msg, Record}
 use Rattle.paxos_acceptor.specs.declared.me.Me.{Me}
+use Rattle.paxos_acceptor.specs.Stores.{IsOneOf, StoreKind}
 use Rattle.group_protocol.specs.declared.fault.NodeFault.{NodeFault}
 use Rattle.group_protocol.specs.declared.fault.NodeFault.TheVariants as fault
 use Rattle.group_node.specs.declared.player.Ran.{Ran}
@@ -13,6 +14,7 @@ use Rattle.group_node.specs.NodeCalls.{Makes, NodeCall, Running, call_of_campaig
 use Rattle.group_node.specs.Output.{IsReplay, RunsOn}
 use Rattle.group_protocol.specs.Packets.{Datagram, datagrams_of}
 use Rattle.group_protocol.specs.Protocol.{on_message}
+use Rattle.group_protocol.specs.ProposerRows.{on_campaign}
 use Rattle.group_node.specs.States.{NodeState, input}
 use Rattle.group_protocol.specs.Tick.{on_tick}
 use Rattle.group_wire.specs.Arrivals.{Arrival, Ending, Fate, GoesOn, Hears, Loses, NoMessage, NoneCame, Refuses, Spells, TooLong}
@@ -181,23 +183,33 @@ FailsDeed me w (Hear m) d =
 FailsDeed me w Campaign d = IsMade (call_of_campaign w.known) × (d.given ≡ []) × SendsNothing d
 FailsDeed me w _ d = ⊥
 
+-- The record of a node that is up after a deed: only a message or a campaign may change it.
+abbrev pub record_after : Known → Deed → Record
+record_after n (Hear m) = (on_message n m.sender m.body).node.kept
+record_after n Campaign = (on_campaign n).node.kept
+record_after n _ = n.kept
+
 -- ---- nodes and their wires
 
 -- The deeds lead from a node to the node `new`, and what passed over its wire is what passes in
--- them.
+-- them. No save of it has failed in them.
 pub record HasDone {S : Type 0} (old new : NodeState S) (from to : Option Traffic)
     (doings : List Doing) : Type 0 where
   pub me : new.protocol.known.me ≡ old.protocol.known.me
   pub does : DoesAll old.protocol.known.me (running old) doings (running new)
   pub traffic : to ≡ grown from (transfers_of old.protocol.known.me doings)
+  pub stays : new.protocol.is_stopped ≡ old.protocol.is_stopped
 
--- The same, and then a deed at which the node's save fails.
-pub record HasFailed {S : Type 0} (old new : NodeState S) (from to : Option Traffic)
-    (doings : List Doing) (last : Doing) : Type 0 where
+-- The same, and then a deed at which the node's save fails. Of an honest store a restart may load
+-- the node's record, or the one that the deed was to save, and no other.
+pub record HasFailed {S : Type 0} (kind : StoreKind S) (old new : NodeState S)
+    (from to : Option Traffic) (doings : List Doing) (last : Doing) : Type 0 where
   pub me : new.protocol.known.me ≡ old.protocol.known.me
   pub does : DoesAll old.protocol.known.me (running old) doings (running new)
   pub fails : FailsDeed old.protocol.known.me (running new) last.deed last
   pub traffic : to ≡ grown from (transfers_of old.protocol.known.me (doings ++ last ∷ []))
+  pub leaves : kind.honest → (r : Record) → kind.may_load new.protocol.store r
+      → IsOneOf r new.protocol.known.kept (record_after new.protocol.known last.deed)
 
 -- Some deeds with these prompts, and all that passed over the wire is what passes in them.
 -- Forbids: a press, a campaign or a run that is not a prompt.
@@ -207,26 +219,26 @@ HasActed old new from to prompts =
     (doings : List Doing) × HasDone old new from to doings × (prompts_of doings ≡ prompts)
 
 -- Some deeds, and then one at which the save fails. All of them have these prompts.
-abbrev pub Fails : {S : Type 0} → NodeState S → NodeState S → Option Traffic → Option Traffic
-    → List Deed → Type 0
-Fails old new from to prompts =
-    (doings : List Doing) × (last : Doing) × HasFailed old new from to doings last
+abbrev pub Fails : {S : Type 0} → StoreKind S → NodeState S → NodeState S → Option Traffic
+    → Option Traffic → List Deed → Type 0
+Fails kind old new from to prompts =
+    (doings : List Doing) × (last : Doing) × HasFailed kind old new from to doings last
     × (prompts_of (doings ++ last ∷ []) ≡ prompts)
 
 -- What a call did that was refused with this fault; these are the prompts at a save that fails. Of
 -- a node that had stopped before, nothing is said.
 -- Allows: any other refusal that does nothing at a prompt.
-abbrev pub RefusesBy : {S : Type 0} → NodeState S → NodeState S → Option Traffic → Option Traffic
-    → List Deed → NodeFault → Type 0
-RefusesBy old new from to failing fault.Store = Fails old new from to failing
-RefusesBy old new from to failing fault.Stopped = Unit {0}
-RefusesBy old new from to failing _ = HasActed old new from to []
+abbrev pub RefusesBy : {S : Type 0} → StoreKind S → NodeState S → NodeState S → Option Traffic
+    → Option Traffic → List Deed → NodeFault → Type 0
+RefusesBy kind old new from to failing fault.Store = Fails kind old new from to failing
+RefusesBy kind old new from to failing fault.Stopped = Unit {0}
+RefusesBy kind old new from to failing _ = HasActed old new from to []
 
 -- What a call did, by its answer: these prompts at `Ok`, and those at a save that fails.
-abbrev pub ActsBy : {S T : Type 0} → NodeState S → NodeState S → Option Traffic → Option Traffic
-    → List Deed → List Deed → Result T NodeFault → Type 0
-ActsBy old new from to prompts failing (Ok x) = HasActed old new from to prompts
-ActsBy old new from to prompts failing (Err e) = RefusesBy old new from to failing e
+abbrev pub ActsBy : {S T : Type 0} → StoreKind S → NodeState S → NodeState S → Option Traffic
+    → Option Traffic → List Deed → List Deed → Result T NodeFault → Type 0
+ActsBy kind old new from to prompts failing (Ok x) = HasActed old new from to prompts
+ActsBy kind old new from to prompts failing (Err e) = RefusesBy kind old new from to failing e
 
 -- What typing did: the bytes of `before` up to `after` were typed, each once and in order, whatever
 -- had passed over the wire.

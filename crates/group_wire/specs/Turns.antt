@@ -1,6 +1,6 @@
 -- A turn of a node on its wire: the messages that it hears, a tick, and a run of its machine.
 use Rattle.std.specs.Prelude.{◌≡◌, ◌≢◌, ◌⊎◌, ◌↔◌, ◌≤◌, Bool, true, false, List, [], ◌∷◌, ◌++◌, All, length, Option, None, Result, Ok, Err, IfErr, IfOk, IsErr, IsErrOf, OnErr, OnOk, ℕ, take}
-use Rattle.paxos_msg.specs.Batches.{Msg}
+use Rattle.paxos_msg.specs.Batches.{Msg, Record}
 use Rattle.paxos_acceptor.specs.Stores.{CountsIf, IsOneOf, StoreKind}
 use Rattle.group_protocol.specs.declared.fault.NodeFault.{NodeFault}
 use Rattle.group_protocol.specs.declared.fault.NodeFault.TheVariants.{Stopped, Store}
@@ -96,13 +96,15 @@ TellsOfOne (Ok answer.Message) came ending = IsOne came ending answer.Message
 TellsOfOne (Err e) came ending = (came ≡ []) × EndsAt ending (λ _. Unit {0})
 
 -- A node whose save has failed at this message, the response to which saves. An honest store has
--- the node's record, or that of the response.
+-- the node's record, or that of the response, and a restart may load one of the two.
 -- Forbids: a mixture of both.
 abbrev pub HasFailedAt : {S : Type 0} → StoreKind S → NodeState S → Msg → Type 0
 HasFailedAt kind n m =
     ((on_message n.protocol.known m.sender m.body).saves ≢ None)
     × (kind.honest → IsOneOf (kind.state n.protocol.store).stored n.protocol.known.kept
     (on_message n.protocol.known m.sender m.body).node.kept)
+    × (kind.honest → (r : Record) → kind.may_load n.protocol.store r
+    → IsOneOf r n.protocol.known.kept (on_message n.protocol.known m.sender m.body).node.kept)
 
 -- A failed save comes only at the message at which hearing ended.
 abbrev pub FailsAtEnd : {S T : Type 0} → StoreKind S → Ending → NodeState S

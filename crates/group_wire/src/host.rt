@@ -108,7 +108,7 @@ impl<'a, S: Store> Host<'a, S> {
     pub fn campaign<T: Wire>(&mut self, wire: &mut T) -> Result<(), NodeFault>
         ensures campaigned { HasCampaigned S.kind self.old self.new
             (T.traffic wire.old) (T.traffic wire.new) result }
-        ensures acts { ActsBy self.old self.new (T.traffic wire.old) (T.traffic wire.new)
+        ensures acts { ActsBy S.kind self.old self.new (T.traffic wire.old) (T.traffic wire.new)
             (Campaign ∷ []) (Campaign ∷ []) result }
         ensures stays { SameReleased self.old self.new }
     {
@@ -138,5 +138,17 @@ impl<'a, S: Store> Host<'a, S> {
         ensures replay { IsReplay (input self.now.protocol.known) self.now.progress }
     {
         self.node.unreleased()
+    }
+
+    /// Returns the store as it is.
+    pub fn into_store(self) -> S
+        ensures { result ≡ self.entry.protocol.store }
+    {
+        let Host {
+            node,
+            outbox: _outbox,
+            group: _group,
+        } = self;
+        node.into_store()
     }
 }

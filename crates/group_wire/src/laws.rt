@@ -25,7 +25,8 @@ pub fn deeds_go_on<S: Store>()
         → HasActed old mid from via p → HasActed mid new via to q
         → HasActed old new from to (p ++ q) }
     ensures fails { (old mid new : NodeState S) (from via to : Option Traffic) (p q : List Deed)
-        → HasActed old mid from via p → Fails mid new via to q → Fails old new from to (p ++ q) }
+        → HasActed old mid from via p → Fails S.kind mid new via to q
+        → Fails S.kind old new from to (p ++ q) }
 {}
 
 /// Deeds that no node does on its wire. It hears no message that the receive did not give, or that

@@ -165,8 +165,8 @@ impl<'a, S: Store> Host<'a, S> {
     pub fn hear<T: Wire>(&mut self, wire: &mut T) -> Result<Received, NodeFault>
         ensures heard { HasHeard S.kind self.old self.new (T.traffic wire.old)
             (T.traffic wire.new) result }
-        ensures acts { ActsBy self.old self.new (T.traffic wire.old) (T.traffic wire.new) [] []
-            result }
+        ensures acts { ActsBy S.kind self.old self.new (T.traffic wire.old) (T.traffic wire.new)
+            [] [] result }
         ensures stays { SameReleased self.old self.new }
     {
         calls_keep_what_is_learned();
@@ -197,7 +197,7 @@ impl<'a, S: Store> Host<'a, S> {
     pub fn turn<T: Wire>(&mut self, wire: &mut T) -> Result<Turned, NodeFault>
         ensures turned { HasTurned S.kind self.old self.new (T.traffic wire.old)
             (T.traffic wire.new) result }
-        ensures acts { ActsBy self.old self.new (T.traffic wire.old) (T.traffic wire.new)
+        ensures acts { ActsBy S.kind self.old self.new (T.traffic wire.old) (T.traffic wire.new)
             (Run TURN_STEPS ∷ []) [] result }
         ensures stays { SameReleased self.old self.new }
     {

@@ -6,8 +6,8 @@ use Rattle.pcode_file.specs.Parts.{Parts}
 use Rattle.pcode_machine.specs.Configuration.{State, Configuration, configuration_of, start}
 use Rattle.pcode_machine.specs.Runs.{after_steps, out, LeadsIn}
 use Rattle.pcode_machine.specs.Turns.{AreQuiet, Makes, WaitsOn}
-use Rattle.machine_run.specs.declared.run.IoFault.{IoFault}
-use Rattle.machine_run.specs.declared.run.IoFault.TheVariants as io
+use Rattle.machine_run.specs.declared.run.RunIo.{RunIo}
+use Rattle.machine_run.specs.declared.run.RunIo.TheVariants as io
 use Rattle.machine_run.specs.declared.run.Finish.{Finish}
 use Rattle.machine_run.specs.Streams.{Streams, HasMoved, HasNoFault, HasReadFault}
 use Rattle.machine_run.specs.Run.{LosesByte, HasRunOn, IsRunOver, IsOverAfter, RunsFrom, Stretches, Reached}
@@ -113,7 +113,7 @@ module _ {p : Parts} {from mid : Streams} {n : ℕ} {old : State} (laws : Laws) 
       let last = idle laws (quiet_on laws r m quiet) moved faultless in
       done laws last f (over laws last _ m most f rests (omega arith))
 
-  pub failed_stretch : {q : Parts} {steps : ℕ} (most : ℕ) (e : IoFault) → q ≡ p → Stretches q most old new mid to (Err e) → n + most ≡ steps
+  pub failed_stretch : {q : Parts} {steps : ℕ} (most : ℕ) (e : RunIo) → q ≡ p → Stretches q most old new mid to (Err e) → n + most ≡ steps
       → RunsFrom p from to steps (Err e)
   failed_stretch most io.Memory same t all = absurd t
   failed_stretch most io.Read same t all =

@@ -7,12 +7,12 @@ use Rattle.machine_run.specs.Files.{IsFileRefusal, IsLoadRefusal, IsLoadedProgra
 use Rattle.machine_run.specs.Run.{RunsProgram}
 use Rattle.machine_run.specs.Streams.{Borrowed, Streams}
 use Rattle.machine_run.specs.declared.run.Finish.{Finish}
-use Rattle.machine_run.specs.declared.run.IoFault.{IoFault}
+use Rattle.machine_run.specs.declared.run.RunIo.{RunIo}
 use Rattle.machine_run.specs.declared.refusal.MachineRefusal.{MachineRefusal}
 use Rattle.machine_run.specs.declared.refusal.MachineRefusal.TheVariants.{Run}
 
 -- The answer of a command that runs a program, by that of the run.
-abbrev pub command_answer : Result Finish IoFault → Result Finish MachineRefusal
+abbrev pub command_answer : Result Finish RunIo → Result Finish MachineRefusal
 command_answer (Ok finish) = Ok finish
 command_answer (Err fault) = Err (Run fault)
 
@@ -27,7 +27,7 @@ RefusesUnread why reader writer result =
 abbrev pub RunsLoaded : {R W : Type 0} → (R → W → Streams) → Parts → Borrowed R → Borrowed W → ℕ
     → Result Finish MachineRefusal → Type 0
 RunsLoaded known program reader writer steps result =
-    (answer : Result Finish IoFault) × RunsProgram known program reader writer steps answer
+    (answer : Result Finish RunIo) × RunsProgram known program reader writer steps answer
     × (result ≡ command_answer answer)
 
 -- A run of the program that these bytes are, unless their load is refused.

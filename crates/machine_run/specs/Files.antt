@@ -7,8 +7,8 @@ use Rattle.pcode_file.specs.InFile.{InFile}
 use Rattle.pcode_file.specs.Checks.{GivesUnlessMemory, read_from}
 use Rattle.pcode_ops.specs.Reach.{IsLoadable, IsRefusal}
 use Rattle.machine_run.specs.declared.files.TheConstants.{LONGEST_FILE}
-use Rattle.machine_run.specs.declared.run.IoFault.{IoFault}
-use Rattle.machine_run.specs.declared.run.IoFault.TheVariants.{Memory, Read, Write}
+use Rattle.machine_run.specs.declared.run.RunIo.{RunIo}
+use Rattle.machine_run.specs.declared.run.RunIo.TheVariants.{Memory, Read, Write}
 use Rattle.machine_run.specs.declared.refusal.MachineRefusal.{MachineRefusal}
 use Rattle.machine_run.specs.declared.refusal.MachineRefusal.TheVariants.{CodeFile, File, Load, Run}
 
@@ -21,14 +21,14 @@ pub record HasReadAll (from to : Option (List ℕ)) (bytes : List ℕ) : Type 0 
 -- Why reading to the end was refused after this front of the bytes, where the reader had counted
 -- `old` faults before and has counted `new` now.
 -- Forbids: `Memory` after an empty front; `Read` where no read failed and few bytes came.
-abbrev pub IsReadRefusal : List ℕ → ℕ → ℕ → IoFault → Type 0
+abbrev pub IsReadRefusal : List ℕ → ℕ → ℕ → RunIo → Type 0
 IsReadRefusal front old new Read =
     HasRisen old new ⊎ ((new ≡ old) × (LONGEST_FILE < length front))
 IsReadRefusal front old new Memory = (new ≡ old) × (0 < length front)
 IsReadRefusal front old new Write = ⊥
 
 -- A refusal to read on, after a front of the bytes that a reader had left.
-abbrev pub HasReadFront : Option (List ℕ) → Option (List ℕ) → ℕ → ℕ → IoFault → Type 0
+abbrev pub HasReadFront : Option (List ℕ) → Option (List ℕ) → ℕ → ℕ → RunIo → Type 0
 HasReadFront from to old new e =
     (front : List ℕ) × Consumes from to front × IsReadRefusal front old new e
 

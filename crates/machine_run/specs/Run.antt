@@ -11,8 +11,8 @@ use Rattle.pcode_machine.specs.Runs.{after_steps, out, LeadsIn}
 use Rattle.pcode_machine.specs.Turns.{AreQuiet, EndsBy, Makes, WaitsOn}
 use Rattle.machine_run.specs.declared.run.Finish.{Finish}
 use Rattle.machine_run.specs.declared.run.Finish.TheVariants as finish
-use Rattle.machine_run.specs.declared.run.IoFault.{IoFault}
-use Rattle.machine_run.specs.declared.run.IoFault.TheVariants as io
+use Rattle.machine_run.specs.declared.run.RunIo.{RunIo}
+use Rattle.machine_run.specs.declared.run.RunIo.TheVariants as io
 use Rattle.machine_run.specs.Streams.{Borrowed, Streams, HasMoved, HasNoFault, HasReadFault, HasWriteFault}
 
 -- A run of n steps on an input, which exist and have taken all of it.
@@ -76,7 +76,7 @@ pub record FailsToWrite (p : Parts) (from to : Streams) (steps : ℕ) : Type 0 w
 -- answer.
 -- Allows: that memory runs out; then nothing has happened.
 -- Forbids: output that is not of the steps, and a finish that the machine has not reached.
-abbrev pub RunsFrom : Parts → Streams → Streams → ℕ → Result Finish IoFault → Type 0
+abbrev pub RunsFrom : Parts → Streams → Streams → ℕ → Result Finish RunIo → Type 0
 RunsFrom p from to steps (Ok f) = Finishes p from to steps f
 RunsFrom p from to steps (Err io.Memory) = to ≡ from
 RunsFrom p from to steps (Err io.Read) = FailsToRead p from to steps
@@ -84,7 +84,7 @@ RunsFrom p from to steps (Err io.Write) = FailsToWrite p from to steps
 
 -- What a run of at most `steps` steps does to a reader and a writer, by what is `known` of them.
 abbrev pub RunsProgram : {R W : Type 0} → (R → W → Streams) → Parts → Borrowed R → Borrowed W → ℕ
-    → Result Finish IoFault → Type 0
+    → Result Finish RunIo → Type 0
 RunsProgram known p reader writer steps result =
     RunsFrom p (known reader.entry.now writer.entry.now) (known reader.exit.now writer.exit.now)
     steps result
@@ -117,7 +117,7 @@ pub record LosesByte (p : Parts) (old new : State) (from to : Streams) : Type 0 
 -- Some steps read and write nothing. Then one takes or writes a byte, or the run is over, or a
 -- fault ends it.
 abbrev pub Stretches : Parts → ℕ → State → State → Streams → Streams
-    → Result (ℕ × Option Finish) IoFault → Type 0
+    → Result (ℕ × Option Finish) RunIo → Type 0
 Stretches p most old new from to (Ok (n, None)) =
     (k : ℕ) × (mid : State) × (took : List ℕ) × (wrote : List ℕ) × (n ≡ k + 1) × (k < most)
     × AreQuiet p k old mid × Makes p mid new took wrote

@@ -7,7 +7,7 @@ ghost use Rattle.machine_run.specs.Streams.{streams};
 use crate::files::read_file;
 use crate::loading::load;
 use crate::refusal::MachineRefusal;
-use crate::run::{Finish, IoFault, run_program};
+use crate::run::{Finish, RunIo, run_program};
 use crate::streams::{ByteReader, ByteWriter};
 use pcode_ops::Program;
 use std::alloc::Global;
@@ -92,7 +92,7 @@ pub fn check_file<H: Files + AllocGlobal, W: Write>(
     writer: &mut W,
 ) -> Result<(), MachineRefusal> {
     let program = load_file(rt, file)?;
-    write_checked(writer, &program).or(Err(MachineRefusal::Run(IoFault::Write)))
+    write_checked(writer, &program).or(Err(MachineRefusal::Run(RunIo::Write)))
 }
 
 /// Writes the whole listing of a program.
@@ -109,10 +109,10 @@ pub fn list_file<H: Files + AllocGlobal, W: Write>(
 ) -> Result<(), MachineRefusal> {
     let program = load_file(rt, file)?;
     let mut pieces = BufWriter::new(rt.alloc(), writer).or(Err(MachineRefusal::Run(
-        IoFault::Memory,
+        RunIo::Memory,
     )))?;
     let written = write_listing(&program, &mut pieces);
     // What a failed write did not write is not tried again.
     let _ = pieces.into_parts();
-    written.or(Err(MachineRefusal::Run(IoFault::Write)))
+    written.or(Err(MachineRefusal::Run(RunIo::Write)))
 }

@@ -1,9 +1,9 @@
 //! Files that are read whole.
 ghost use Rattle.std.specs.Prelude.{◌≡◌, ◌≢◌, IfErr, IfOk};
 ghost use Rattle.machine_run.specs.Files.{HasReadAll, HasReadFront};
-ghost use Rattle.machine_run.specs.declared.run.IoFault.TheVariants.{Write};
+ghost use Rattle.machine_run.specs.declared.run.RunIo.TheVariants.{Write};
 
-use crate::run::IoFault;
+use crate::run::RunIo;
 use crate::streams::{ReadFault, read_some};
 use std::alloc::Global;
 use std::fs;
@@ -32,7 +32,7 @@ pub fn read_whole<R: Read>(
     alloc: Global,
     reader: &mut R,
     faults: &mut u64,
-) -> Result<Vec<u8>, IoFault>
+) -> Result<Vec<u8>, RunIo>
     ensures whole { IfOk result
         (λ bytes. HasReadAll (R.remaining reader.old) (R.remaining reader.new) bytes.items) }
     ensures front { IfErr result
@@ -47,13 +47,13 @@ pub fn read_whole<R: Read>(
             Ok(0) => return Ok(bytes),
             Ok(n) => {
                 if n > LONGEST_FILE - bytes.len() {
-                    return Err(IoFault::Read);
+                    return Err(RunIo::Read);
                 }
                 if bytes.extend_from_slice(&buffer[..n]).is_err() {
-                    return Err(IoFault::Memory);
+                    return Err(RunIo::Memory);
                 }
             }
-            Err(ReadFault) => return Err(IoFault::Read),
+            Err(ReadFault) => return Err(RunIo::Read),
         }
     }
     // Each pass has added a byte at least.
@@ -67,7 +67,7 @@ pub fn read_file<H: Files + AllocGlobal>(rt: &H, path: &str) -> Result<Vec<u8>, 
     };
     match read_whole(rt.alloc(), &mut file, &mut 0) {
         Ok(bytes) => Ok(bytes),
-        Err(IoFault::Memory) => Err(FileError::Memory),
-        Err(IoFault::Read | IoFault::Write) => Err(FileError::Unreadable),
+        Err(RunIo::Memory) => Err(FileError::Memory),
+        Err(RunIo::Read | RunIo::Write) => Err(FileError::Unreadable),
     }
 }

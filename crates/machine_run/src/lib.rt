@@ -22,5 +22,5 @@ pub use commands::{check_file, list_file, load_file, run_file};
 pub use files::{FileError, LONGEST_FILE, read_file, read_whole};
 pub use loading::load;
 pub use refusal::MachineRefusal;
-pub use run::{Finish, IoFault, run_program};
+pub use run::{Finish, RunIo, run_program};
 pub use streams::{ByteReader, ByteWriter, Counting, ReadFault, WriteFault};

@@ -1,6 +1,6 @@
 //! The refusals of the commands of one machine.
 use crate::files::FileError;
-use crate::run::IoFault;
+use crate::run::RunIo;
 use pcode_file::FileFault;
 use pcode_ops::LoadFault;
 use thiserror::Error;
@@ -19,14 +19,14 @@ pub enum MachineRefusal {
     Load(LoadFault),
     /// Memory ran out, or a read or a write failed.
     #[error(transparent)]
-    Run(IoFault),
+    Run(RunIo),
 }
 
 impl From<FileError> for MachineRefusal {
     ghost use Rattle.std.specs.Prelude.{◌≡◌};
     ghost use Rattle.machine_run.specs.declared.refusal.MachineRefusal.TheVariants.{File, Run};
     ghost use Rattle.machine_run.specs.declared.files.FileError.TheVariants as file;
-    ghost use Rattle.machine_run.specs.declared.run.IoFault.TheVariants as run;
+    ghost use Rattle.machine_run.specs.declared.run.RunIo.TheVariants as run;
 
     ghost from_gives = { λ error r. (error ≡ file.Unreadable → r ≡ File)
         × (error ≡ file.Memory → r ≡ Run run.Memory) };
@@ -34,7 +34,7 @@ impl From<FileError> for MachineRefusal {
     fn from(error: FileError) -> MachineRefusal {
         match error {
             FileError::Unreadable => MachineRefusal::File,
-            FileError::Memory => MachineRefusal::Run(IoFault::Memory),
+            FileError::Memory => MachineRefusal::Run(RunIo::Memory),
         }
     }
 }

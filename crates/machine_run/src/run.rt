@@ -28,7 +28,7 @@ pub enum Finish {
 
 /// What went wrong around the machine. The text is the refusal's code.
 #[derive(Clone, Copy, Debug, PartialEq, Eq, Error)]
-pub enum IoFault {
+pub enum RunIo {
     /// Memory ran out. Of `run_program`: before its first step.
     #[error("E1")]
     Memory,
@@ -80,7 +80,7 @@ fn stretch<R: ByteReader, W: ByteWriter>(
     writer: &mut W,
     machine: &mut Machine<'_>,
     most: u32,
-) -> Result<(u32, Option<Finish>), IoFault>
+) -> Result<(u32, Option<Finish>), RunIo>
     ensures program { machine.new.program ≡ machine.old.program }
     ensures stretch { Stretches machine.old.program most machine.old.state machine.new.state
         (streams R.remaining R.read_faults W.contents W.write_faults reader.old writer.old)
@@ -94,15 +94,15 @@ fn stretch<R: ByteReader, W: ByteWriter>(
         Pause::Ended(end) => Ok((made, Some(finish_by(end)))),
         Pause::Wrote(byte) => match writer.write_byte(byte) {
             Ok(()) => Ok((made, None)),
-            Err(WriteFault) => Err(IoFault::Write),
+            Err(WriteFault) => Err(RunIo::Write),
         },
         Pause::Wants => match reader.read_byte() {
             Ok(Some(byte)) => match feed(writer, machine, byte) {
                 Ok(()) => Ok((made + 1, None)),
-                Err(WriteFault) => Err(IoFault::Write),
+                Err(WriteFault) => Err(RunIo::Write),
             },
             Ok(None) => Ok((made, Some(Finish::Waits))),
-            Err(ReadFault) => Err(IoFault::Read),
+            Err(ReadFault) => Err(RunIo::Read),
         },
     }
 }
@@ -121,7 +121,7 @@ pub fn run_program<R: ByteReader, W: ByteWriter>(
     writer: &mut W,
     program: &Program,
     steps: u32,
-) -> Result<Finish, IoFault>
+) -> Result<Finish, RunIo>
     ensures { RunsProgram (streams R.remaining R.read_faults W.contents W.write_faults)
         program.now reader writer steps result }
 {
@@ -131,7 +131,7 @@ pub fn run_program<R: ByteReader, W: ByteWriter>(
     run_is_after();
     quiet_steps_lead_on();
     let Ok(mut machine) = Machine::new(alloc, program) else {
-        return Err(IoFault::Memory);
+        return Err(RunIo::Memory);
     };
     let mut left = steps;
     while left > 0 {

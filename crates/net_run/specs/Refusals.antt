@@ -5,7 +5,7 @@ use Rattle.group_protocol.specs.declared.fault.NodeFault.TheVariants as fault
 use Rattle.machine_run.specs.Files.{IsFileRefusal}
 use Rattle.machine_run.specs.declared.refusal.MachineRefusal.{MachineRefusal}
 use Rattle.machine_run.specs.declared.refusal.MachineRefusal.TheVariants.{Run}
-use Rattle.machine_run.specs.declared.run.IoFault.TheVariants.{Read}
+use Rattle.machine_run.specs.declared.run.RunIo.TheVariants.{Read}
 use Rattle.group_udp.specs.declared.fault.GroupFault.{GroupFault}
 use Rattle.group_udp.specs.declared.fault.GroupFault.TheVariants as group
 use Rattle.group_udp.specs.Refusals.{IsCampaignRefusal, IsOpenRefusal, IsRunRefusal, no_memory}

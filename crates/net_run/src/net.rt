@@ -7,7 +7,7 @@ use crate::shown::ShownNode;
 use group_log::{Log, Note};
 use group_node::Config;
 use group_udp::{GroupFault, UdpWire, Watch, bind};
-use machine_run::{IoFault, load_file, read_whole};
+use machine_run::{RunIo, load_file, read_whole};
 use mio::net::UdpSocket;
 use paxos_msg::Group;
 use pcode_ops::Program;
@@ -191,7 +191,7 @@ fn net<H: Net + Files + Clock + AllocGlobal, W: Write, E: Write>(
     let mut nodes = nodes(alloc, program, group, wires)?;
     campaign_first(nodes.as_mut_slice())?;
     play(rt, nodes.as_mut_slice(), plan, input, errors)?;
-    write_all(writer, nodes.as_slice()).or(Err(GroupFault::from(IoFault::Write)))
+    write_all(writer, nodes.as_slice()).or(Err(GroupFault::from(RunIo::Write)))
 }
 
 /// Runs the program of a code file in a group in this process, as the plan says. Fails only if the

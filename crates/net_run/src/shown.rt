@@ -17,7 +17,7 @@ use group_node::{Config, Console, Offer};
 use group_udp::{GroupFault, RestingWire, UdpWire};
 use group_wire::Host;
 use group_wire::laws::deeds_go_on;
-use machine_run::IoFault;
+use machine_run::RunIo;
 use paxos_acceptor::{MemoryStore, Store};
 use paxos_msg::Record;
 use pcode_machine::End;
@@ -51,7 +51,7 @@ fn show_next<S: Store>(host: &mut Host<'_, S>, console: &mut Console) -> Result<
 {
     deeds_go_on::<S>();
     if console.reserve().is_err() {
-        return Err(GroupFault::from(IoFault::Memory));
+        return Err(GroupFault::from(RunIo::Memory));
     }
     let Some((number, byte)) = host.release() else {
         unreachable!()

@@ -4,6 +4,7 @@ use Rattle.std.proofs.Math.Seq.{drop-append_seam, take-append_seam}
 use Rattle.std.proofs.lemmas.Grind.{common_steps, flat_map-append}
 use Rattle.std.proofs.lemmas.List.{drop_all, length-append, take-append-drop}
 use Rattle.std.proofs.lemmas.List.Elements.{filter-append}
+use Rattle.paxos_acceptor.specs.Stores.{StoreKind}
 use Rattle.group_node.specs.Deeds.{Deed, Press, Run}
 use Rattle.group_node.specs.States.{NodeState}
 use Rattle.group_wire.specs.Doings.{Fails, HasActed}
@@ -99,16 +100,16 @@ prompted_both {g} {h} {p} {q} first second =
 -- ---- calls
 
 -- what holds of deeds that go on
-abbrev pub GoOn : Type 0 → Type 0
-GoOn S = record {
+abbrev pub GoOn : {S : Type 0} → StoreKind S → Type 0
+GoOn {S} kind = record {
   none : (n : NodeState S) (from : Option Traffic) → HasActed n n from from [];
   more : (old mid new : NodeState S) (from via to : Option Traffic) (p q : List Deed) → HasActed old mid from via p
       → HasActed mid new via to q → HasActed old new from to (p ++ q);
   fails : (old mid new : NodeState S) (from via to : Option Traffic) (p q : List Deed) → HasActed old mid from via p
-      → Fails mid new via to q → Fails old new from to (p ++ q);
+      → Fails kind mid new via to q → Fails kind old new from to (p ++ q);
 }
 
-module _ {S : Type 0} (laws : GoOn S) where
+module _ {S : Type 0} {kind : StoreKind S} (laws : GoOn kind) where
   -- what was done, and then more
   pub gone_then : {first : List Deed} {old mid new : NodeState S} {from via to : Around} {t u : ℕ} → HasGoneOn first old mid from via t
       → HasGoneOn [] mid new via to u → HasGoneOn first old new from to (t + u)
@@ -118,7 +119,7 @@ module _ {S : Type 0} (laws : GoOn S) where
 
   -- and then what a refusal ended
   pub ended_then : {first : List Deed} {old mid new : NodeState S} {from via to : Around} {t u : ℕ} {e : GroupFault}
-      → HasGoneOn first old mid from via t → HasEnded [] mid new via to u e → HasEnded first old new from to (t + u) e
+      → HasGoneOn first old mid from via t → HasEnded kind [] mid new via to u e → HasEnded kind first old new from to (t + u) e
   ended_then {to = to} h k = record {
     gift = h.gift ++ k.gift;
     prompts = h.prompts ++ k.prompts;
@@ -143,10 +144,10 @@ gone_turn steps {keys} acts =
     record { gift = []; prompts = Run steps ∷ []; given = gift_none keys; acts = acts; prompted = prompted refl (omega arith) refl }
 
 -- these prompts without the keyboard, up to a refusal
-ended_unprompted : {S : Type 0} {first : List Deed} {old new : NodeState S} {from to : Option Traffic} {keys left : Option Remaining}
-    {e : GroupFault} → left ≡ keys → (e ≡ group.Node Store → Fails old new from to first)
+ended_unprompted : {S : Type 0} {kind : StoreKind S} {first : List Deed} {old new : NodeState S} {from to : Option Traffic}
+    {keys left : Option Remaining} {e : GroupFault} → left ≡ keys → (e ≡ group.Node Store → Fails kind old new from to first)
     → (e ≢ group.Node Store → HasActed old new from to first) → HasReason e new.protocol.known
-    → HasEnded first old new (around from keys) (around to left) 0 e
+    → HasEnded kind first old new (around from keys) (around to left) 0 e
 ended_unprompted {first = first} {left = left} same fails acts due = record {
   gift = [];
   prompts = [];
@@ -158,9 +159,10 @@ ended_unprompted {first = first} {left = left} same fails acts due = record {
 }
 
 -- a save failed at these prompts
-pub save_ended : {S : Type 0} {old new : NodeState S} {from to : Option Traffic} {keys left : Option Remaining} {e : GroupFault}
-    {gift prompts : List Deed} → FailsAt old new from to prompts e → keys ≡ with_gift gift left
-    → IsPrompted gift 0 (e ≡ group.Node SerialSpent) prompts → HasEnded [] old new (around from keys) (around to left) 0 e
+pub save_ended : {S : Type 0} {kind : StoreKind S} {old new : NodeState S} {from to : Option Traffic}
+    {keys left : Option Remaining} {e : GroupFault} {gift prompts : List Deed} → FailsAt kind old new from to prompts e
+    → keys ≡ with_gift gift left
+    → IsPrompted gift 0 (e ≡ group.Node SerialSpent) prompts → HasEnded kind [] old new (around from keys) (around to left) 0 e
 save_ended {gift = gift} {prompts} h given prompted = grind (arith, gift, prompts)
 
 -- a refusal is of a save, or not
@@ -169,26 +171,29 @@ is_store (group.Node Store) = inl refl
 is_store e = inr (λ is. absurd cc)
 
 -- a refusal of a cycle, after others
-pub played_ended : {S : Type 0} (laws : GoOn S) {old mid new : NodeState S} {from via to : Around} {made turns : ℕ} {e : GroupFault}
-    → made < turns → HasGoneOn [] old mid from via made → HasGone {T = Unit {0}} [] mid new via to 1 (Err e)
-    → HasGone {T = Unit {0}} [] old new from to turns (Err e)
+pub played_ended : {S : Type 0} {kind : StoreKind S}
+    (laws : GoOn kind) {old mid new : NodeState S} {from via to : Around} {made turns : ℕ} {e : GroupFault}
+    → made < turns → HasGoneOn [] old mid from via made → HasGone {T = Unit {0}} kind [] mid new via to 1 (Err e)
+    → HasGone {T = Unit {0}} kind [] old new from to turns (Err e)
 played_ended laws {made = made} more before h = inl (elim h [
   | inl k ↦ (made + k.0, omega (arith, more, k.1), ended_then laws before k.2)
   | inr k ↦ (made + 0, omega (arith, more), ended_then laws before k.2)
 ])
 
 -- a refusal that no save caused ends what was done
-pub gone_ended : {S : Type 0} {first : List Deed} {old new : NodeState S} {from to : Around} {turns : ℕ} {e : GroupFault}
+pub gone_ended : {S : Type 0} {kind : StoreKind S} {first : List Deed} {old new : NodeState S} {from to : Around} {turns : ℕ}
+    {e : GroupFault}
     → HasGoneOn first old new from to turns → e ≢ group.Node Store → HasReason e new.protocol.known
-    → HasEnded first old new from to turns e
+    → HasEnded kind first old new from to turns e
 gone_ended h other due = grind (arith, h.gift, h.prompts)
 
 -- ---- after a campaign of the plan
 
 -- the cycles after it, by their answer
-pub begun_by : {S : Type 0} (laws : GoOn S) {old mid : NodeState S} {t u : Option Traffic} {first : List Deed} (new : NodeState S)
+pub begun_by : {S : Type 0} {kind : StoreKind S} (laws : GoOn kind) {old mid : NodeState S} {t u : Option Traffic} {first : List Deed}
+    (new : NodeState S)
     (keys : Option Remaining) (to : Around) (turns : ℕ) (result : Result (Unit {0}) GroupFault) → HasActed old mid t u first
-    → HasGone [] mid new (around u keys) to turns result → HasGone first old new (around t keys) to turns result
+    → HasGone kind [] mid new (around u keys) to turns result → HasGone kind first old new (around t keys) to turns result
 begun_by laws new keys to turns (Ok x) begun h = rw zero-add at (gone_then laws (gone_unprompted begun refl) h)
 begun_by laws new keys to turns (Err e) begun h = inl (elim h [
   | inl k ↦ (k.0, k.1, rw zero-add at (ended_then laws (gone_unprompted begun refl) k.2))
@@ -196,9 +201,9 @@ begun_by laws new keys to turns (Err e) begun h = inl (elim h [
 ])
 
 -- a campaign of the plan that was refused
-pub campaign_refused : {S : Type 0} {old new : NodeState S} {t u : Option Traffic} {keys : Option Remaining} {asked : Bool} {turns : ℕ}
-    {e : GroupFault} → CampaignsIf asked old new t u (Err e) → IsCampaignRefusal e
-    → HasGone {T = Unit {0}} (planned asked) old new (around t keys) (around u keys) turns (Err e)
+pub campaign_refused : {S : Type 0} {kind : StoreKind S} {old new : NodeState S} {t u : Option Traffic} {keys : Option Remaining}
+    {asked : Bool} {turns : ℕ} {e : GroupFault} → CampaignsIf kind asked old new t u (Err e) → IsCampaignRefusal e
+    → HasGone {T = Unit {0}} kind (planned asked) old new (around t keys) (around u keys) turns (Err e)
 campaign_refused {old = old} {new} {t} {u} {asked = asked} {e = e} (is, fails, acts, due) refusal = elim (is_store e) [
   | inl store ↦
       inl (0, omega arith, ended_unprompted refl (λ s. rw is (fails s)) (λ other. absurd (other store)) due)

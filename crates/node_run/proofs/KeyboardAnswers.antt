@@ -52,8 +52,9 @@ answered_on kind (CampaignRefused f) (given, refused) =
     record { gift = Campaign ∷ []; prompts = []; given = given; acts = refused.4; prompted = prompted refl (omega arith) refl }
 
 -- typing that spent the serials
-typing_ended : {S : Type 0} {old new : NodeState S} (passed : Option Traffic) {from to : Option Remaining} {e : GroupFault}
-    → HasTypedGiven old new from to (Err e) → HasEnded [] old new (around passed from) (around passed to) 0 e
+typing_ended : {S : Type 0} {kind : StoreKind S} {old new : NodeState S}
+    (passed : Option Traffic) {from to : Option Remaining} {e : GroupFault}
+    → HasTypedGiven old new from to (Err e) → HasEnded kind [] old new (around passed from) (around passed to) 0 e
 typing_ended passed (typed, lost, spent, given, due, acts) =
     let same = prompted_lost typed lost (λ not. absurd (not spent)) in
     grind (arith, map Press (typed ++ lost), map Press typed, acts passed, same)

@@ -4,3 +4,4 @@ mod KeyboardAnswers
 mod Releasing
 mod Writing
 mod Running
+mod OverFile

@@ -1,11 +1,11 @@
 -- A whole run of a node, by its answer.
-use Rattle.std.proofs.Common.{◌≡◌, inl, inr, ℕ, List, Option, IfErr, IsErrOf, OnOk, Result, Ok, Err, refl, sym, ap, subst, arith, ◌≢◌, ◌⊎◌, ◌≤◌, []}
+use Rattle.std.proofs.Common.{◌≡◌, inl, inr, ℕ, List, Option, IfErr, IsErrOf, OnOk, Result, Ok, Err, refl, sym, ap, subst, arith, ◌≢◌, ◌⊎◌, ◌≤◌, [], false}
 use Rattle.std.proofs.lemmas.Grind.{common_steps}
 use Rattle.std.proofs.lemmas.List.{drop_all}
 use Rattle.std.specs.declared.net.socket_addr.SocketAddr.{SocketAddr}
 use Rattle.pcode_file.specs.Parts.{Parts}
 use Rattle.paxos_acceptor.specs.declared.me.Me.{Me}
-use Rattle.paxos_acceptor.specs.Stores.{StoreKind}
+use Rattle.paxos_acceptor.specs.Stores.{MayLoadOnly, StoreKind}
 use Rattle.group_node.specs.Output.{IsReplay, no_progress}
 use Rattle.group_node.specs.States.{NodeState, input}
 use Rattle.group_node.specs.NodeCalls.{running}
@@ -32,13 +32,14 @@ written_from p seen first last fails c d start replay (wrote, h, appends) = grin
 
 module _ {S : Type 0} (kind : StoreKind S) (me : Me) (program : Parts)
     (store : S) (plan : RunPlan) (first last : NodeState S) (from to : Around) (before after : Option (List ℕ))
-    (starts : HasStarted kind me program store (Ok first)) (replay : IsReplay (input last.protocol.known) last.progress) where
+    (starts : HasStarted kind me program store (Ok first)) (replay : IsReplay (input last.protocol.known) last.progress)
+    (loads : kind.honest → last.protocol.is_stopped ≡ false → MayLoadOnly kind last.protocol.store last.protocol.known.kept) where
   -- what a refusal ended
   ended_by : {e : GroupFault} (begun : List Deed) (done : ℕ) → (begun ≡ planned plan.campaigns)
       ⊎ ((begun ≡ []) × (done ≡ 0) × ((e ≢ group.Node Store) × IsCampaignRefusal e)) → done ≤ plan.turns
-      → HasEnded begun first last from to done e
+      → HasEnded kind begun first last from to done e
       → AppendsOutput plan.seen first last (IsErrOf {T = Unit {0}} (Err e) write_failed) before after → IsEarlyEnd plan e
-      → RunsNode kind.loads me program store plan from to before after (Err e)
+      → RunsNode kind me program store last.protocol.store plan from to before after (Err e)
   ended_by {e} begun done is few h writes others = record {
     last = running last;
     first = begun;
@@ -47,7 +48,7 @@ module _ {S : Type 0} (kind : StoreKind S) (me : Me) (program : Parts)
       | inl store_failed ↦
           ran_out kind me program store first last from.traffic to.traffic starts _ (ap Err store_failed) (h.fails store_failed)
       | inr other ↦
-          ran_on kind me program store first last from.traffic to.traffic starts _ (λ failed. other cc) (h.acts other)
+          ran_on kind me program store first last from.traffic to.traffic starts _ (λ failed. other cc) loads (h.acts other)
     ];
     turns = done;
     begun = is;
@@ -62,15 +63,15 @@ module _ {S : Type 0} (kind : StoreKind S) (me : Me) (program : Parts)
     none_waits = tt;
   }
 
-  pub runs_by : (result : Result (Unit {0}) GroupFault) → HasGone (planned plan.campaigns) first last from to plan.turns result
+  pub runs_by : (result : Result (Unit {0}) GroupFault) → HasGone kind (planned plan.campaigns) first last from to plan.turns result
       → AppendsOutput plan.seen first last (IsErrOf result write_failed) before after
       → OnOk result (NoneWaits last) → IfErr result (IsEarlyEnd plan)
-      → RunsNode kind.loads me program store plan from to before after result
+      → RunsNode kind me program store last.protocol.store plan from to before after result
   runs_by (Ok x) h writes none others = record {
     last = running last;
     first = planned plan.campaigns;
     prompts = h.prompts;
-    runs = ran_on kind me program store first last from.traffic to.traffic starts _ (λ is. absurd cc) h.acts;
+    runs = ran_on kind me program store first last from.traffic to.traffic starts _ (λ is. absurd cc) loads h.acts;
     turns = plan.turns;
     begun = inl refl;
     gift = h.gift;

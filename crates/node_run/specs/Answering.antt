@@ -68,7 +68,7 @@ HasCampaignedAsAsked kind old new from to (Ok (CampaignRefused f)) =
     × HasCampaigned kind old new from to (Err f) × (f ≢ Stopped) × (f ≢ Store)
     × HasActed old new from to []
 HasCampaignedAsAsked kind old new from to (Err e) =
-    (¬ LeadsWithoutGap old.protocol.known) × FailsAt old new from to (Campaign ∷ []) e
+    (¬ LeadsWithoutGap old.protocol.known) × FailsAt kind old new from to (Campaign ∷ []) e
 
 -- What happens at a keyboard before a turn: typing of what it gave, or a campaign that it asked
 -- for, as the answer says.
@@ -81,4 +81,4 @@ HasAnsweredKeyboard kind old new from to (Ok answer) =
     (from.keyboard ≡ with_gift (Campaign ∷ []) to.keyboard)
     × HasCampaignedAsAsked kind old new from.traffic to.traffic (Ok answer)
 HasAnsweredKeyboard kind old new from to (Err e) =
-    IsCycleRefusal e × HasEnded [] old new from to 0 e
+    IsCycleRefusal e × HasEnded kind [] old new from to 0 e

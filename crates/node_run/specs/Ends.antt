@@ -3,14 +3,14 @@
 use Rattle.std.specs.Prelude.{◌≡◌, ◌≢◌, ◌⊎◌, ◌<◌, ℕ, List, [], Option, Some, None, Result, Err}
 use Rattle.std.specs.declared.net.socket_addr.SocketAddr.{SocketAddr}
 use Rattle.paxos_acceptor.specs.declared.me.Me.{Me}
-use Rattle.paxos_disk.specs.Files.{file_kind}
+use Rattle.paxos_disk.specs.Files.{FileKnowledge, file_kind}
 use Rattle.pcode_file.specs.Parts.{Parts}
 use Rattle.group_protocol.specs.declared.fault.NodeFault.TheVariants.{Id, Size}
 use Rattle.group_protocol.specs.States.{IsConfig, IsSize}
 use Rattle.machine_run.specs.declared.refusal.MachineRefusal.{MachineRefusal}
 use Rattle.machine_run.specs.declared.refusal.MachineRefusal.TheVariants.{Run}
-use Rattle.machine_run.specs.declared.run.IoFault.{IoFault}
-use Rattle.machine_run.specs.declared.run.IoFault.TheVariants.{Write}
+use Rattle.machine_run.specs.declared.run.RunIo.{RunIo}
+use Rattle.machine_run.specs.declared.run.RunIo.TheVariants.{Write}
 use Rattle.machine_run.specs.Files.{HasReadAll, HasReadFront, IsFileRefusal, IsLoadedProgram}
 use Rattle.group_udp.specs.declared.fault.GroupFault.{GroupFault}
 use Rattle.group_udp.specs.declared.fault.GroupFault.TheVariants as group
@@ -32,8 +32,9 @@ abbrev pub RunsOverFile : Me → Parts → NodePlan → Option Remaining → Opt
     → Option (List ℕ) → Option (List ℕ) → Result (Unit {0}) GroupFault → Type 0
 RunsOverFile me program plan from to before after result =
     RefusesUnwritten (λ e. e ≡ no_memory) before after result
-    ⊎ RunsOrRefuses file_kind me program (record { me = me; found = None; faults = 0 }) plan.run
-    (around None from) (around None to) before after result
+    ⊎ ((end : FileKnowledge)
+    × RunsOrRefuses file_kind me program (record { me = me; found = None; faults = 0 }) end
+    plan.run (around None from) (around None to) before after result)
 
 -- Such a run once its sockets are open, with a keyboard that has this left; or none, since a socket
 -- or memory is missing.
@@ -76,7 +77,7 @@ IsRefusedNode plan e =
 -- long, or memory ran out. It is not read if typed bytes come as datagrams.
 abbrev pub IsRefusedInput : NodePlan → Option (List ℕ) → Option (List ℕ) → GroupFault → Type 0
 IsRefusedInput plan from to e =
-    (plan.keys ≡ None) × (faults : ℕ) × (fault : IoFault) × (fault ≢ Write)
+    (plan.keys ≡ None) × (faults : ℕ) × (fault : RunIo) × (fault ≢ Write)
     × HasReadFront from to 0 faults fault × (e ≡ group.Machine (Run fault))
 
 -- The input that is typed.

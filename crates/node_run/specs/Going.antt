@@ -1,5 +1,6 @@
 -- What a node does between its start and its end: its deeds, and what it is prompted to do.
 use Rattle.std.specs.Prelude.{◌≡◌, ◌≢◌, ◌≤◌, ◌+◌, ◌⊎◌, ℕ, Bool, true, false, List, [], ◌∷◌, ◌++◌, Option, Result, Ok, Err}
+use Rattle.paxos_acceptor.specs.Stores.{StoreKind}
 use Rattle.group_protocol.specs.declared.fault.NodeFault.TheVariants.{PlacesSpent, RoundsSpent, SerialSpent, Store}
 use Rattle.group_node.specs.Deeds.{Campaign, Deed}
 use Rattle.group_protocol.specs.Known.{Known, front, next_serial}
@@ -55,44 +56,45 @@ pub record HasGoneOn {S : Type 0} (first : List Deed) (old new : NodeState S) (f
   pub prompted : IsPrompted gift turns ⊥ prompts
 
 -- What it did up to a refusal. Exactly if a save failed, its last deed is the one that failed.
-pub record HasEnded {S : Type 0} (first : List Deed) (old new : NodeState S) (from to : Around)
-    (turns : ℕ) (e : GroupFault) : Type 0 where
+pub record HasEnded {S : Type 0} (kind : StoreKind S) (first : List Deed) (old new : NodeState S)
+    (from to : Around) (turns : ℕ) (e : GroupFault) : Type 0 where
   pub gift : List Deed
   pub prompts : List Deed
   pub given : from.keyboard ≡ with_gift gift to.keyboard
-  pub fails : e ≡ group.Node Store → Fails old new from.traffic to.traffic (first ++ prompts)
+  pub fails : e ≡ group.Node Store
+      → Fails kind old new from.traffic to.traffic (first ++ prompts)
   pub acts : e ≢ group.Node Store → HasActed old new from.traffic to.traffic (first ++ prompts)
   pub prompted : IsPrompted gift turns (e ≡ group.Node SerialSpent) prompts
   pub due : HasReason e new.protocol.known
 
 -- What a node did, by the answer: so many turns at `Ok`, and at most so many up to a refusal. Where
 -- its campaign does not begin it has done nothing.
-abbrev pub HasGone : {S T : Type 0} → List Deed → NodeState S → NodeState S → Around → Around → ℕ
-    → Result T GroupFault → Type 0
-HasGone first old new from to turns (Ok x) = HasGoneOn first old new from to turns
-HasGone first old new from to turns (Err e) =
-    ((done : ℕ) × (done ≤ turns) × HasEnded first old new from to done e)
-    ⊎ ((e ≢ group.Node Store) × IsCampaignRefusal e × HasEnded [] old new from to 0 e)
+abbrev pub HasGone : {S T : Type 0} → StoreKind S → List Deed → NodeState S → NodeState S → Around
+    → Around → ℕ → Result T GroupFault → Type 0
+HasGone kind first old new from to turns (Ok x) = HasGoneOn first old new from to turns
+HasGone kind first old new from to turns (Err e) =
+    ((done : ℕ) × (done ≤ turns) × HasEnded kind first old new from to done e)
+    ⊎ ((e ≢ group.Node Store) × IsCampaignRefusal e × HasEnded kind [] old new from to 0 e)
 
 -- A call that is refused only since a save of the node fails now: then these are the prompts.
-pub record FailsAt {S : Type 0} (old new : NodeState S) (from to : Option Traffic)
-    (failing : List Deed) (e : GroupFault) : Type 0 where
+pub record FailsAt {S : Type 0} (kind : StoreKind S) (old new : NodeState S)
+    (from to : Option Traffic) (failing : List Deed) (e : GroupFault) : Type 0 where
   pub store : e ≡ group.Node Store
-  pub fails : Fails old new from to failing
+  pub fails : Fails kind old new from to failing
 
 -- A rest, or a part of one: what the node heard. It is refused only since a save fails at a
 -- message.
-abbrev pub HasRested : {S T : Type 0} → NodeState S → NodeState S → Option Traffic
+abbrev pub HasRested : {S T : Type 0} → StoreKind S → NodeState S → NodeState S → Option Traffic
     → Option Traffic → Result T GroupFault → Type 0
-HasRested old new from to (Ok x) = HasActed old new from to []
-HasRested old new from to (Err e) = FailsAt old new from to [] e
+HasRested kind old new from to (Ok x) = HasActed old new from to []
+HasRested kind old new from to (Err e) = FailsAt kind old new from to [] e
 
 -- A campaign before the first turn, if the plan has one. It is refused since a save fails, or does
 -- not begin.
 -- Forbids: a campaign that was not asked for, and none where one was.
-abbrev pub CampaignsIf : {S : Type 0} → Bool → NodeState S → NodeState S → Option Traffic
-    → Option Traffic → Result (Unit {0}) GroupFault → Type 0
-CampaignsIf is_asked old new from to (Ok x) = HasActed old new from to (planned is_asked)
-CampaignsIf is_asked old new from to (Err e) =
-    (is_asked ≡ true) × (e ≡ group.Node Store → Fails old new from to (planned true))
+abbrev pub CampaignsIf : {S : Type 0} → StoreKind S → Bool → NodeState S → NodeState S
+    → Option Traffic → Option Traffic → Result (Unit {0}) GroupFault → Type 0
+CampaignsIf kind is_asked old new from to (Ok x) = HasActed old new from to (planned is_asked)
+CampaignsIf kind is_asked old new from to (Err e) =
+    (is_asked ≡ true) × (e ≡ group.Node Store → Fails kind old new from to (planned true))
     × (e ≢ group.Node Store → HasActed old new from to []) × HasReason e new.protocol.known

@@ -3,9 +3,7 @@
 use Rattle.std.specs.Prelude.{◌≡◌, ◌≢◌, ◌≤◌, ◌⊎◌, ℕ, true, List, [], ◌++◌, length, Option, Result, Err, IfErr, IsErrAnd, IsErrOf, OnOk}
 use Rattle.std.specs.Io.KnownBytes.{Appends}
 use Rattle.paxos_acceptor.specs.declared.me.Me.{Me}
-use Rattle.paxos_acceptor.specs.declared.store.StoreFault.{StoreFault}
 use Rattle.paxos_acceptor.specs.Stores.{StoreKind}
-use Rattle.paxos_msg.specs.Batches.{Record}
 use Rattle.pcode_file.specs.Parts.{Parts}
 use Rattle.group_protocol.specs.declared.fault.NodeFault.TheVariants.{SerialSpent, Store}
 use Rattle.group_protocol.specs.declared.start.StartRefused.{StartRefused}
@@ -44,21 +42,21 @@ pub record WritesReleased (seen : ℕ) (last : Running) (fails : Type 0) (from t
 abbrev pub IsEarlyEnd : RunPlan → GroupFault → Type 0
 IsEarlyEnd plan e = IsWrittenCycleRefusal e ⊎ ((plan.campaigns ≡ true) × IsCampaignRefusal e)
 
--- A run of a node that has started, as a process of its group over one load of its store. All that
+-- A run of a node that has started, as a process of its group over one load of its store, which is
+-- `end` after it. All that
 -- passes over its wire is what passes in its deeds. It campaigns first if its plan says so. Then it
 -- is prompted by its keyboard, and takes as many turns as the plan has, or fewer if it is refused.
 -- After all turns no output waits. It ends at its first failed save.
 -- Allows: turns at which nothing is heard.
 -- Forbids: output that waits at `Ok`.
-pub record RunsNode {S : Type 0} (loads : S → Result Record StoreFault → S → Type 0) (me : Me)
-    (program : Parts) (store : S) (plan : RunPlan) (from to : Around)
-    (before after : Option (List ℕ))
+pub record RunsNode {S : Type 0} (kind : StoreKind S) (me : Me) (program : Parts) (store end : S)
+    (plan : RunPlan) (from to : Around) (before after : Option (List ℕ))
     (result : Result (Unit {0}) GroupFault) : Type 0 where
   pub last : Running
   pub first : List Deed
   pub prompts : List Deed
-  pub runs : RunsAsProcess loads me program store last from.traffic to.traffic (first ++ prompts)
-      (IsErrOf result (group.Node Store))
+  pub runs : RunsAsProcess kind me program store last end from.traffic to.traffic
+      (first ++ prompts) (IsErrOf result (group.Node Store))
   pub turns : ℕ
   pub begun : (first ≡ planned plan.campaigns) ⊎ ((first ≡ []) × (turns ≡ 0)
       × IsErrAnd result (λ e. (e ≢ group.Node Store) × IsCampaignRefusal e))
@@ -72,11 +70,12 @@ pub record RunsNode {S : Type 0} (loads : S → Result Record StoreFault → S �
   pub writes : WritesReleased plan.seen last (IsErrOf result write_failed) before after
   pub none_waits : OnOk result (unreleased_by last ≡ [])
 
--- A run of a node over a store, a wire and a keyboard. Its start is refused; then nothing passes,
--- nothing is typed, and nothing is written. Or it starts, and runs.
-abbrev pub RunsOrRefuses : {S : Type 0} → StoreKind S → Me → Parts → S → RunPlan → Around
+-- A run of a node over a store, a wire and a keyboard, and the store `end` after it. Its start is
+-- refused; then nothing passes, nothing is typed, and nothing is written. Or it starts, and runs.
+abbrev pub RunsOrRefuses : {S : Type 0} → StoreKind S → Me → Parts → S → S → RunPlan → Around
     → Around → Option (List ℕ) → Option (List ℕ) → Result (Unit {0}) GroupFault → Type 0
-RunsOrRefuses {S} kind me program store plan from to before after result =
+RunsOrRefuses {S} kind me program store end plan from to before after result =
     ((refused : StartRefused S) × HasStarted kind me program store (Err refused)
-    × (to ≡ from) × (after ≡ before) × (result ≡ Err (group.Node refused.fault)))
-    ⊎ RunsNode kind.loads me program store plan from to before after result
+    × (end ≡ refused.store) × (to ≡ from) × (after ≡ before)
+    × (result ≡ Err (group.Node refused.fault)))
+    ⊎ RunsNode kind me program store end plan from to before after result

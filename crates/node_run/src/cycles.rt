@@ -75,7 +75,7 @@ fn rest_and_turn<H: Clock, T: CountedWire, K: Keyboard, S: Store, E: Write>(
 ) -> Result<bool, GroupFault>
     requires works { host.old.protocol.is_stopped ≡ false }
     ensures works { OnOk result (host.new.protocol.is_stopped ≡ false) }
-    ensures goes { HasGone [] host.old host.new
+    ensures goes { HasGone S.kind [] host.old host.new
         (around_of T.traffic K.remaining endpoints.old)
         (around_of T.traffic K.remaining endpoints.new) 1 result }
     ensures program { SameProgram host.old host.new }
@@ -106,7 +106,7 @@ fn cycle<H: Clock, T: CountedWire, K: Keyboard, S: Store, W: ByteWriter, E: Writ
 ) -> Result<bool, GroupFault>
     requires works { host.old.protocol.is_stopped ≡ false }
     ensures works { OnOk result (host.new.protocol.is_stopped ≡ false) }
-    ensures goes { HasGone [] host.old host.new
+    ensures goes { HasGone S.kind [] host.old host.new
         (around_of T.traffic K.remaining endpoints.old)
         (around_of T.traffic K.remaining endpoints.new) 1 result }
     ensures program { SameProgram host.old host.new }
@@ -135,7 +135,7 @@ fn play<H: Clock, T: CountedWire, K: Keyboard, S: Store, W: ByteWriter, E: Write
     log: &mut Log<'_, H, E>,
 ) -> Result<(), GroupFault>
     requires works { host.old.protocol.is_stopped ≡ false }
-    ensures goes { HasGone [] host.old host.new
+    ensures goes { HasGone S.kind [] host.old host.new
         (around_of T.traffic K.remaining endpoints.old)
         (around_of T.traffic K.remaining endpoints.new) plan.turns result }
     ensures program { SameProgram host.old host.new }
@@ -160,7 +160,7 @@ fn campaign_if<T: Wire, S: Store>(
 ) -> Result<(), GroupFault>
     requires works { host.old.protocol.is_stopped ≡ false }
     ensures works { OnOk result (host.new.protocol.is_stopped ≡ false) }
-    ensures acts { CampaignsIf is_asked host.old host.new (T.traffic wire.old)
+    ensures acts { CampaignsIf S.kind is_asked host.old host.new (T.traffic wire.old)
         (T.traffic wire.new) result }
     ensures stays { SameReleased host.old host.new }
     ensures progress { host.new.progress ≡ host.old.progress }
@@ -183,7 +183,7 @@ pub fn campaign_and_play<H: Clock, T: CountedWire, K: Keyboard, S: Store, W: Byt
     log: &mut Log<'_, H, E>,
 ) -> Result<(), GroupFault>
     requires works { host.old.protocol.is_stopped ≡ false }
-    ensures goes { HasGone (planned plan.campaigns) host.old host.new
+    ensures goes { HasGone S.kind (planned plan.campaigns) host.old host.new
         (around_of T.traffic K.remaining endpoints.old)
         (around_of T.traffic K.remaining endpoints.new) plan.turns result }
     ensures program { SameProgram host.old host.new }

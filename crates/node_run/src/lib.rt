@@ -4,8 +4,9 @@
 //!
 //! - `node_file`, which runs one node of a group, as a `NodePlan` says;
 //! - `run_node`, the same over any store, wire and keyboard, as a `RunPlan` says: its contract says
-//!   that the run is a process of a group, what passes over the wire, what is typed and what is
-//!   written;
+//!   that the run is a process of a group, what passes over the wire, what is typed, what is
+//!   written, and what a restart may load after it;
+//! - `run_over_disk`, the same over any disk: `node_file` is its instance over the system's files;
 //! - `laws::consoles_go_on`, a law: the output of a node continues over its starts.
 //!
 //! A node waits for datagrams between its turns.
@@ -25,5 +26,5 @@ mod text;
 pub use cycles::RunPlan;
 pub use endpoints::Endpoints;
 pub use node::{NodePlan, node_file};
-pub use run::run_node;
+pub use run::{NodeEnd, run_node, run_over_disk};
 pub use text::Text;

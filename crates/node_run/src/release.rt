@@ -9,7 +9,7 @@ ghost use Rattle.node_run.specs.Releases.{HasReleased};
 use group_udp::GroupFault;
 use group_wire::laws::deeds_go_on;
 use group_wire::{Host, Told, Wire};
-use machine_run::{ByteWriter, IoFault, WriteFault};
+use machine_run::{ByteWriter, RunIo, WriteFault};
 use paxos_acceptor::Store;
 
 /// Writes a released byte exactly if its number is not below `seen`. A fault of the writer is
@@ -55,7 +55,7 @@ pub fn release_all<T: Wire, S: Store, W: ByteWriter>(
         wire.tell(&Told::Released(number, byte));
         match write_unseen(writer, seen, number, byte) {
             Ok(()) => (),
-            Err(WriteFault) => return Err(GroupFault::from(IoFault::Write)),
+            Err(WriteFault) => return Err(GroupFault::from(RunIo::Write)),
         }
     }
     Ok(())

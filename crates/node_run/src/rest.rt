@@ -60,7 +60,7 @@ fn rest_once<T: RestingWire, K: Keyboard, S: Store>(
 ) -> Result<bool, GroupFault>
     requires works { host.old.protocol.is_stopped ≡ false }
     ensures works { OnOk result (host.new.protocol.is_stopped ≡ false) }
-    ensures rests { HasRested host.old host.new (T.traffic endpoints.old.wire)
+    ensures rests { HasRested S.kind host.old host.new (T.traffic endpoints.old.wire)
         (T.traffic endpoints.new.wire) result }
     ensures untyped { K.remaining endpoints.new.keyboard ≡ K.remaining endpoints.old.keyboard }
     ensures stays { SameReleased host.old host.new }
@@ -86,7 +86,7 @@ fn rest<T: RestingWire, K: Keyboard, S: Store>(
 ) -> Result<(), GroupFault>
     requires works { host.old.protocol.is_stopped ≡ false }
     ensures works { OnOk result (host.new.protocol.is_stopped ≡ false) }
-    ensures rests { HasRested host.old host.new (T.traffic endpoints.old.wire)
+    ensures rests { HasRested S.kind host.old host.new (T.traffic endpoints.old.wire)
         (T.traffic endpoints.new.wire) result }
     ensures untyped { K.remaining endpoints.new.keyboard ≡ K.remaining endpoints.old.keyboard }
     ensures stays { SameReleased host.old host.new }
@@ -115,7 +115,7 @@ pub fn rest_unless_busy<T: RestingWire, K: Keyboard, S: Store>(
     ensures works { OnOk result (host.new.protocol.is_stopped ≡ false) }
     ensures busy { is_busy ≡ true → (result ≡ Ok tt) × (host.new ≡ host.old)
         × (endpoints.new ≡ endpoints.old) }
-    ensures rests { HasRested host.old host.new (T.traffic endpoints.old.wire)
+    ensures rests { HasRested S.kind host.old host.new (T.traffic endpoints.old.wire)
         (T.traffic endpoints.new.wire) result }
     ensures untyped { K.remaining endpoints.new.keyboard ≡ K.remaining endpoints.old.keyboard }
     ensures stays { SameReleased host.old host.new }
@@ -151,7 +151,7 @@ pub fn own_turn<T: Wire, S: Store>(host: &mut Host<'_, S>, wire: &mut T) -> Resu
     ensures acts { OnOk result (HasActed host.old host.new (T.traffic wire.old) (T.traffic wire.new)
         (Run TURN_STEPS ∷ [])) }
     ensures refused { IfErr result
-        (FailsAt host.old host.new (T.traffic wire.old) (T.traffic wire.new) []) }
+        (FailsAt S.kind host.old host.new (T.traffic wire.old) (T.traffic wire.new) []) }
     ensures program { SameProgram host.old host.new }
     ensures stays { SameReleased host.old host.new }
 {

@@ -1,5 +1,9 @@
-//! A whole run of one node: over any store, wire and keyboard, and over those of the system.
-ghost use Rattle.std.specs.Prelude.{◌≡◌, IfErr, None, Some};
+//! A whole run of one node: over any store, wire and keyboard, over any disk, and over the files
+//! and sockets of the system.
+ghost use Rattle.std.specs.Prelude.{◌≡◌, ℕ, IfErr, List, None, Option, Some};
+ghost use Rattle.paxos_disk.specs.Disks.{MayFind};
+ghost use Rattle.paxos_disk.specs.Found.{disk_kind};
+ghost use Rattle.paxos_disk.specs.Reads.{IsGood};
 ghost use Rattle.node_run.specs.Ends.{RunsOpened, RunsOverFile, RunsWith};
 ghost use Rattle.node_run.specs.Going.{around_of};
 ghost use Rattle.group_udp.specs.Refusals.{IsRunRefusal};
@@ -10,12 +14,12 @@ use crate::endpoints::{Endpoints, open_keyboard, open_wire};
 use crate::node::NodePlan;
 use crate::text::Text;
 use group_log::Log;
-use group_node::{Config, NodeFault};
+use group_node::{Config, NodeFault, StartRefused};
 use group_udp::{CountedWire, GroupFault, Keyboard, UdpWire, Watch};
 use group_wire::{Host, Told, Wire};
 use machine_run::ByteWriter;
 use paxos_acceptor::Store;
-use paxos_disk::FileStore;
+use paxos_disk::{Disk, FileDisk, LogStore};
 use pcode_ops::Program;
 use std::alloc::Global;
 use std::fs::File;
@@ -23,6 +27,15 @@ use std::io::Write;
 use std::net::{Net, SocketAddr};
 use std::rt::Files;
 use std::time::Clock;
+
+/// How the run of a node ended, and its store.
+#[derive(Drop)]
+pub struct NodeEnd<S> {
+    /// The store, as the run has left it.
+    pub store: S,
+    /// Whether all turns were made, or why they were not.
+    pub done: Result<(), GroupFault>,
+}
 
 /// Tells the wire how the run of its node ended: that a save failed, if one did, and the status of
 /// the process. Returns how it ended.
@@ -49,6 +62,10 @@ fn tell_end<T: Wire>(wire: &mut T, done: Result<(), GroupFault>) -> Result<(), G
 /// A start that is refused ends it, and nothing passes, nothing is typed, and nothing is written.
 /// Else it ends at the first failed save or write, if the plan's campaign is refused, or where a
 /// byte is typed and the serials are spent.
+///
+/// The store is given back. The record that an honest one loaded is one that a restart might have
+/// loaded before, and in the end a restart may load the record of the process alone, or, if its
+/// save failed, that or the changed one.
 pub fn run_node<H: Clock, T: CountedWire, K: Keyboard, S: Store + Drop, W: ByteWriter, E: Write>(
     alloc: Global,
     program: &Program,
@@ -58,24 +75,67 @@ pub fn run_node<H: Clock, T: CountedWire, K: Keyboard, S: Store + Drop, W: ByteW
     endpoints: &mut Endpoints<T, K>,
     writer: &mut W,
     log: &mut Log<'_, H, E>,
-) -> Result<(), GroupFault>
-    ensures ends { RunsOrRefuses S.kind config program.now store plan
+) -> NodeEnd<S>
+    ensures ends { RunsOrRefuses S.kind config program.now store result.store plan
         (around_of T.traffic K.remaining endpoints.old)
         (around_of T.traffic K.remaining endpoints.new)
-        (W.contents writer.old) (W.contents writer.new) result }
-    ensures others { IfErr result IsRunRefusal }
+        (W.contents writer.old) (W.contents writer.new) result.done }
+    ensures others { IfErr result.done IsRunRefusal }
 {
     let group = config.me().group;
     let mut host = match Host::start(alloc, program, config, store) {
         Ok(host) => host,
-        Err(refused) => return tell_end(&mut endpoints.wire, Err(GroupFault::from(refused))),
+        Err(StartRefused { fault, store }) => {
+            let done = tell_end(&mut endpoints.wire, Err(GroupFault::Node(fault)));
+            return NodeEnd { store, done };
+        }
     };
     endpoints.wire.tell(&Told::Started);
     log.note_started(host.node().protocol(), group);
     let played = campaign_and_play(&mut host, plan, endpoints, writer, log);
     // The machine is where a replay from the start is.
     host.unreleased();
-    tell_end(&mut endpoints.wire, played)
+    // It says what a restart may load of the store.
+    host.node().record();
+    let done = tell_end(&mut endpoints.wire, played);
+    let store = host.into_store();
+    NodeEnd { store, done }
+}
+
+/// Runs one node over a disk, as `run_node` says. Whatever a restart finds on an honest disk has to
+/// be a record of the node, or no file.
+///
+/// On an honest disk the process is over a record that a restart might have found there before
+/// (`MayLoad`), and after it a restart finds the record of the process alone, or, if its save
+/// failed, that or the changed one.
+pub fn run_over_disk<
+    H: Clock,
+    T: CountedWire,
+    K: Keyboard,
+    D: Disk + Drop,
+    W: ByteWriter,
+    E: Write,
+>(
+    alloc: Global,
+    program: &Program,
+    config: Config,
+    disk: D,
+    plan: RunPlan,
+    endpoints: &mut Endpoints<T, K>,
+    writer: &mut W,
+    log: &mut Log<'_, H, E>,
+) -> NodeEnd<LogStore<D>>
+    requires good { D.honest → (left : Option (List ℕ)) → MayFind (D.folder disk) left
+        → IsGood config left }
+    ensures ends { RunsOrRefuses (disk_kind D.honest D.folder) config program.now
+        (record { disk = disk; filed = record { me = config; found = None; faults = 0 } })
+        result.store plan (around_of T.traffic K.remaining endpoints.old)
+        (around_of T.traffic K.remaining endpoints.new)
+        (W.contents writer.old) (W.contents writer.new) result.done }
+    ensures others { IfErr result.done IsRunRefusal }
+{
+    let store = LogStore::new(alloc, disk, config.me());
+    run_node(alloc, program, config, store, plan, endpoints, writer, log)
 }
 
 /// Runs one node over the record in the file that the plan names.
@@ -97,17 +157,18 @@ fn run_over_file<
         (K.remaining endpoints.old.keyboard) (K.remaining endpoints.new.keyboard)
         (W.contents writer.old) (W.contents writer.new) result }
 {
-    let store = FileStore::new(*rt, plan.record, config.me())?;
-    run_node(
+    let disk = FileDisk::new(*rt, plan.record)?;
+    let end = run_over_disk(
         rt.alloc(),
         program,
         config,
-        store,
+        disk,
         plan.run,
         endpoints,
         writer,
         log,
-    )
+    );
+    end.done
 }
 
 /// Opens the socket of the node, and runs it. It types `text`.

@@ -5,7 +5,7 @@ use Rattle.paxos_msg.specs.declared.limits.TheConstants.{LAST_START}
 use Rattle.paxos_msg.specs.declared.record.Change.TheVariants.{Start}
 use Rattle.paxos_acceptor.specs.Answers.{Answer, after}
 use Rattle.paxos_acceptor.specs.Calls.{Mut}
-use Rattle.paxos_acceptor.specs.Stores.{StoreKind, FailsAsPlanned, CountsIf, IsOneOf}
+use Rattle.paxos_acceptor.specs.Stores.{StoreKind, FailsAsPlanned, CountsIf, IsOneOf, MayLoadNoMore, MayLoadOnly}
 use Rattle.paxos_acceptor.specs.declared.fault.AcceptorFault.{AcceptorFault}
 use Rattle.paxos_acceptor.specs.declared.fault.AcceptorFault.TheVariants.{Store, Closed, StartsSpent}
 use Rattle.paxos_acceptor.specs.declared.me.Me.{Me}
@@ -50,6 +50,15 @@ pub record Follows {S T : Type 0} (kind : StoreKind S) (change : Option Change)
       → IsOneOf (kind.state new.store).stored old.kept (after old.kept change)
   pub unsaved : kind.honest → OnErr result (¬ IsErrOf result Store
       → (kind.state new.store).stored ≡ (kind.state old.store).stored)
+  -- After `Ok` of a call that saves, a restart may load the new record of an honest store alone,
+  -- and after an error other than `Store` no more than before. Whatever the answer, and whenever a
+  -- crash comes, what it might not load before is the new record.
+  pub only : kind.honest → change ≢ None
+      → OnOk result (MayLoadOnly kind new.store (after old.kept change))
+  pub left : kind.honest → OnErr result (¬ IsErrOf result Store
+      → MayLoadNoMore kind old.store new.store)
+  pub no_more : kind.honest → (q : Record) → kind.may_load new.store q
+      → kind.may_load old.store q ⊎ (q ≡ after old.kept change)
   -- No save succeeds under a plan. `Store` uses the plan up, and nothing else changes it. An honest
   -- store that fails at will fails only under a plan, and then has the record that the plan says.
   pub unplanned : change ≢ None → OnOk result ((kind.state old.store).plan ≡ None)

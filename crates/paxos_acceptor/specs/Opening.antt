@@ -9,7 +9,7 @@ use Rattle.paxos_acceptor.specs.declared.store.StoreFault.{StoreFault}
 use Rattle.paxos_acceptor.specs.declared.store.StoreFault.TheVariants as store
 use Rattle.paxos_acceptor.specs.Records.{IsRecord}
 use Rattle.paxos_acceptor.specs.Follows.{AcceptorState}
-use Rattle.paxos_acceptor.specs.Stores.{CountsIf, StoreKind}
+use Rattle.paxos_acceptor.specs.Stores.{CountsIf, LoadsFrom, StoreKind}
 
 -- The acceptor's fault for the fault of a load.
 abbrev pub fault_of_load : StoreFault → AcceptorFault
@@ -32,7 +32,9 @@ Opens me (Ok kept) left (Err e) =
 Opens me (Err f) left (Ok a) = ⊥
 Opens me (Err f) left (Err e) = e ≡ record { fault = fault_of_load f; store = left }
 
--- The result of opening over the answer of one load, and over the store that the load left.
+-- The result of opening over the answer of one load, and over the store that the load left. An
+-- honest one returns a record that a restart may load before, and none may be loaded after it that
+-- might not be loaded before.
 -- Allows: Any store, honest or not.
 -- Forbids: A second load.
 pub record OpensOnce {S : Type 0} (kind : StoreKind S) (me : Me) (store : S)
@@ -40,6 +42,7 @@ pub record OpensOnce {S : Type 0} (kind : StoreKind S) (me : Me) (store : S)
   pub answer : Result Record StoreFault
   pub left : S
   pub loads : kind.loads store answer left
+  pub may : LoadsFrom kind store left answer
   pub opens : Opens me answer left result
 
 -- An acceptor that has just been opened: not closed, its record in its ranges, of this node.

@@ -6,6 +6,7 @@ ghost use Rattle.paxos_acceptor.specs.Calls.{FailsOnlyWith, IsAmong};
 ghost use Rattle.paxos_acceptor.specs.Follows.{Answers, CountsStart};
 ghost use Rattle.paxos_acceptor.specs.Opening.{IsOpened, OpensByPlan, OpensFrom, OpensOnce, fault_of_load};
 ghost use Rattle.paxos_acceptor.specs.Records.{IsRecord};
+ghost use Rattle.paxos_acceptor.specs.Stores.{MayLoadNoMore};
 
 use crate::answers::{accepted, greater_promise, is_promised, part_from, value_under};
 use crate::fault::AcceptorFault;
@@ -275,10 +276,11 @@ impl<S: Store> Acceptor<S> {
 
     /// Gives `plan` to the store: how its next save is to fail, or `None`. A store that fails at
     /// will then has it. The acceptor's node and record, whether it is closed, the record of an
-    /// honest store, and the count of faults stay.
+    /// honest store, what a restart may load of it, and the count of faults stay.
     pub fn fail_next(&mut self, plan: Option<bool>)
         ensures same { S.kind.honest
             → (S.kind.state self.new.store).stored ≡ (S.kind.state self.old.store).stored }
+        ensures may { S.kind.honest → MayLoadNoMore S.kind self.old.store self.new.store }
         ensures plan { S.kind.fails_at_will → (S.kind.state self.new.store).plan ≡ plan }
         ensures faults { (S.kind.state self.new.store).faults
             ≡ (S.kind.state self.old.store).faults }

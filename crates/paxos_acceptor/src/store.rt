@@ -1,9 +1,10 @@
 //! Stores, which keep a record over restarts.
+ghost use Rattle.paxos_msg.specs.Records.{changed};
 ghost use Rattle.std.specs.Prelude.{◌≡◌, ◌<◌};
 ghost use Rattle.paxos_msg.specs.declared.record.Change.TheVariants.{Start};
 ghost use Rattle.paxos_msg.specs.Messages.{IsAscending};
 ghost use Rattle.paxos_acceptor.specs.declared.store.StoreFault.TheVariants.{Memory};
-ghost use Rattle.paxos_acceptor.specs.Stores.{Loaded, Saved};
+ghost use Rattle.paxos_acceptor.specs.Stores.{Loaded, LoadsFrom, MayLoadNoMore, Saved, SavesTo};
 ghost use Rattle.paxos_msg.specs.declared.limits.TheConstants.{LAST_START};
 
 use paxos_msg::{Change, Record};
@@ -41,7 +42,8 @@ pub trait Store {
     /// never fails with `Bad`. A store that fails at will never fails with `Device`. The plan of
     /// any store stays. `Device` counts one more fault, and nothing else counts one.
     fn load(&mut self) -> Result<Record, StoreFault>
-        ensures { Loaded kind self result };
+        ensures loaded { Loaded kind self result }
+        ensures may { LoadsFrom kind self.old self.new result };
 
     /// Makes `change` in the stored record. An honest store has the changed record after `Ok`, the
     /// old one after `Memory`, and one of the two after `Device`. The call never fails with `Bad`.
@@ -55,7 +57,9 @@ pub trait Store {
         requires starts { kind.honest → change.now ≡ Start
             → (kind.state self.old).stored.starts < LAST_START }
         requires ascending { kind.honest → IsAscending (kind.state self.old).stored.votes }
-        ensures { Saved kind change.now self result };
+        ensures saved { Saved kind change.now self result }
+        ensures may { SavesTo kind (changed (kind.state self.old).stored change.now)
+            self.old self.new result };
 
     /// Returns how often the device has failed.
     ///
@@ -65,9 +69,10 @@ pub trait Store {
 
     /// Gives a store that fails at will this plan for its next save: a fault that leaves the
     /// changed record (`Some(true)`) or the old one (`Some(false)`), or no fault (`None`). The
-    /// record of an honest store and the count of faults stay.
+    /// record of an honest store, what a restart may load of it, and the count of faults stay.
     fn fail_next(&mut self, plan: Option<bool>)
         ensures same { kind.honest → (kind.state self.new).stored ≡ (kind.state self.old).stored }
+        ensures may { kind.honest → MayLoadNoMore kind self.old self.new }
         ensures plan { kind.fails_at_will → (kind.state self.new).plan ≡ plan }
         ensures faults { (kind.state self.new).faults ≡ (kind.state self.old).faults };
 }

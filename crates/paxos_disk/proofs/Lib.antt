@@ -7,3 +7,5 @@ mod Forms
 mod TornAppends
 mod DiskCalls
 mod Restarts
+mod Found
+mod Headers

@@ -1,6 +1,6 @@
 //! The laws of the bytes of a record, over the definitions alone: of logs, of what a crash leaves
 //! of them, and of the forms of a file. Each contract is the law.
-ghost use Rattle.std.specs.Prelude.{◌≡◌, ◌^◌, ◌++◌, ◌<◌, ◌≤◌, ◌⊎◌, ℕ, Bool, List, Some, length, take};
+ghost use Rattle.std.specs.Prelude.{◌≡◌, ◌^◌, ◌++◌, ◌<◌, ◌≤◌, ◌⊎◌, ℕ, [], Bool, IsOk, List, None, Option, Result, Some, length, take};
 ghost use Rattle.paxos_msg.specs.declared.ballot.Ballot.{Ballot};
 ghost use Rattle.paxos_msg.specs.Batches.{Change, Record};
 ghost use Rattle.paxos_msg.specs.Fits.{AreBytes};
@@ -18,11 +18,18 @@ ghost use Rattle.paxos_disk.specs.Files.{IsFiledAs, IsFormAfter, IsFormIn, IsPat
 ghost use Rattle.paxos_disk.specs.Log.{IsUncut, LogBy, LogFound, LogIn, log_header};
 ghost use Rattle.paxos_disk.specs.Padding.{IsAppended};
 ghost use Rattle.paxos_disk.specs.Sectors.{torn};
+ghost use Rattle.paxos_acceptor.specs.declared.store.StoreFault.{StoreFault};
+ghost use Rattle.paxos_msg.specs.Fits.{IsGroup};
+ghost use Rattle.paxos_disk.specs.Disks.{Folder, Remains, seen_in};
+ghost use Rattle.paxos_disk.specs.Found.{LoadsNoMore, LoadsNoMoreBut, MayLoad};
+ghost use Rattle.paxos_disk.specs.Reads.{IsGood, Reads, Restarts, record_in};
 ghost use Rattle.paxos_disk.specs.Records.{Rec};
 ghost use Rattle.paxos_disk.specs.Version1.{Rec1};
 
 use crate::entry::entries_stay_in_ranges;
 use crate::log_reading::entry_is_spelling;
+use crate::log_store::records_are_read;
+use paxos_acceptor::Me;
 
 /// In version 2 a header is a log of the empty record. A log without a cut entry, followed by a
 /// change that can be made, is a log of the changed record; followed by only the first bytes of
@@ -89,3 +96,28 @@ pub fn forms_are_apart()
     ensures log_or_old_record { (me : Me) (ending : Ending) (version : Version) (bytes : List ℕ)
         (r s : Record) (n : ℕ) → LogBy ending version me bytes r n → ¬ Rec1 me bytes s }
 {}
+
+/// What a restart may load of the calls of a store on a disk, as records and not as bytes. All who
+/// read a file read one record. On a disk without a file it is the empty record. It is what is
+/// seen, which a load gives. After a load it is nothing new; after a save, the changed record or
+/// what it was before; after a save that is `Ok`, the changed record alone.
+pub fn what_restarts_load(me: Me)
+    ensures one { (left : Option (List ℕ)) (r s : Record) (other : Me) → IsGroup other.group
+        → Reads me left r → Reads other left s → s ≡ r }
+    ensures none { (folder : Folder) (r : Record) → folder.file ≡ None → folder.others ≡ []
+        → MayLoad folder r → r ≡ empty_record }
+    ensures seen { (folder : Folder) → IsGood me (seen_in folder)
+        → MayLoad folder (record_in me (seen_in folder)) }
+    ensures load { (old new : Folder) → Remains old new → LoadsNoMore old new }
+    ensures saved { (old new : Folder) (r next : Record) (result : Result (Unit {0}) StoreFault)
+        → Restarts me old new r next result → IsOk result
+        → (s : Record) → MayLoad new s → s ≡ next }
+    ensures left { (old new : Folder) (next : Record) (result : Result (Unit {0}) StoreFault)
+        → IsGood me (seen_in old)
+        → Restarts me old new (record_in me (seen_in old)) next result
+        → LoadsNoMoreBut old next new }
+{
+    // The prover knows the range of a field once it is read.
+    let _session = me.group.session;
+    records_are_read(me);
+}

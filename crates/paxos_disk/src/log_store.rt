@@ -6,6 +6,7 @@ ghost use Rattle.paxos_msg.specs.Records.{changed};
 ghost use Rattle.paxos_disk.specs.Disks.{IsSyncedFrom, MayFind, Remains};
 ghost use Rattle.paxos_disk.specs.Entries.{IsEntry};
 ghost use Rattle.paxos_disk.specs.Files.{Finds, Notes};
+ghost use Rattle.paxos_disk.specs.Found.{LoadsNoMore, LoadsNoMoreBut, MayLoad, disk_kind};
 ghost use Rattle.paxos_disk.specs.Reads.{IsGood, Reads, Restarts, record_in, stored_in};
 ghost use Rattle.paxos_acceptor.specs.Stores.{CountsIf, IsOneOf};
 
@@ -13,6 +14,7 @@ use crate::codec::record_is_spelling;
 use crate::disk::Disk;
 use crate::entry::is_entry;
 use crate::form::{Form, form_after, form_of, patch_of};
+use crate::laws::what_restarts_load;
 use crate::log_reading::entry_is_spelling;
 use crate::writing::{is_as_left, put_synced, read_synced};
 use base::count_fault;
@@ -80,7 +82,7 @@ fn give_up(found: &mut Option<Record>, faults: &mut u64) -> StoreFault
 
 /// A load of `me` reads no other record from what a restart finds than the one that `record_in`
 /// says.
-fn records_are_read(me: Me)
+pub(crate) fn records_are_read(me: Me)
     ensures { (found : Option (List ℕ)) (r : Kept) → Reads me found r → record_in me found ≡ r }
 {
     // The prover knows the range of a field once it is read.
@@ -146,24 +148,15 @@ impl<D: Disk> LogStore<D> {
 }
 
 impl<D: Disk> Store for LogStore<D> {
-    ghost kind = { record {
-      honest = D.honest;
-      fails_at_will = ⊥;
-      state = λ s. record {
-        stored = stored_in D.folder s;
-        plan = None;
-        faults = s.filed.faults;
-      };
-      loads = λ old answer new. Finds old.filed new.filed answer;
-    } };
+    ghost kind = { disk_kind D.honest D.folder };
 
     /// Returns the record of the file, which the store knows from then on. After an error it knows
     /// none. `Device` counts one more fault, and nothing else counts one. It comes only where a
     /// call of the disk has failed, and `Bad` never on an honest disk.
     ///
     /// The end that a crash may have left of an append is passed over. A restart may find nothing
-    /// that it could not find before. After `Ok` it finds this record alone, if no sync of the file
-    /// has failed before.
+    /// that it could not find before, so it loads no other record, and this one it might load.
+    /// After `Ok` it finds this record alone, if no sync of the file has failed before.
     fn load(&mut self) -> Result<Record, StoreFault>
         ensures loads { Finds self.old.filed self.new.filed result }
         ensures found { D.honest → IfOk result (λ r. r ≡ stored_in D.folder self.old) }
@@ -171,10 +164,14 @@ impl<D: Disk> Store for LogStore<D> {
         ensures remains { D.honest → Remains (D.folder self.old.disk) (D.folder self.new.disk) }
         ensures synced { D.honest
             → OnOk result (IsSyncedFrom (D.folder self.old.disk) (D.folder self.new.disk)) }
+        ensures may { D.honest → IfOk result (λ r. MayLoad (D.folder self.old.disk) r) }
+        ensures no_more { D.honest
+            → LoadsNoMore (D.folder self.old.disk) (D.folder self.new.disk) }
         ensures cause { CountsIf (IsErrOf result StoreFault.Device) (D.faults self.old.disk)
             (D.faults self.new.disk) }
     {
         records_are_read(self.me);
+        what_restarts_load(self.me);
         // Nothing is known of the file until it is read.
         self.found.take();
         let read = match read_synced(&mut self.disk, self.alloc) {
@@ -195,8 +192,9 @@ impl<D: Disk> Store for LogStore<D> {
     ///
     /// After `Ok` each restart on an honest disk finds the changed record. A crash at any moment
     /// before leaves what it would have left before the call, the record or the changed one
-    /// (`Restarts`). Where a record is known and the change can be made to it, `Device` comes only
-    /// where a call of the disk has failed.
+    /// (`Restarts`); so a restart loads the changed record, or what it might load before. Where a
+    /// record is known and the change can be made to it, `Device` comes only where a call of the
+    /// disk has failed.
     fn save(&mut self, change: &Change) -> Result<(), StoreFault>
         ensures notes { Notes self.old.filed self.new.filed change.now result }
         ensures good { ¬ IsErrOf result StoreFault.Bad }
@@ -210,12 +208,17 @@ impl<D: Disk> Store for LogStore<D> {
             → Restarts self.old.filed.me (D.folder self.old.disk) (D.folder self.new.disk)
             (stored_in D.folder self.old) (changed (stored_in D.folder self.old) change.now)
             result }
+        ensures only { D.honest → OnOk result ((r : Kept) → MayLoad (D.folder self.new.disk) r
+            → r ≡ changed (stored_in D.folder self.old) change.now) }
+        ensures no_more { D.honest → LoadsNoMoreBut (D.folder self.old.disk)
+            (changed (stored_in D.folder self.old) change.now) (D.folder self.new.disk) }
         ensures cause { D.honest → IsSomeAnd self.old.filed.found
             (λ r. IsEntry self.old.filed.me.group.size r change.now)
             → CountsIf (IsErrOf result StoreFault.Device) (D.faults self.old.disk)
             (D.faults self.new.disk) }
     {
         records_are_read(self.me);
+        what_restarts_load(self.me);
         let Some(found) = &mut self.found else {
             return Err(give_up(&mut self.found, &mut self.faults));
         };

@@ -84,7 +84,7 @@ pub(crate) fn fits_body(size: u8, sender: u8, body: &Body) -> bool
                 && fits_ballot(size, *promised)
                 && is_below(*ballot, *promised)
         }
-        Body::Submit { value } => fits_value(size, *value) && are_own_keys(sender, *value),
+        Body::Submit { key } => fits_value(size, *key) && are_own_keys(sender, *key),
         Body::Ask { from } => *from <= PLACES,
         Body::Tell { place, value } => *place <= LAST_PLACE && fits_value(size, *value),
     }
@@ -148,7 +148,7 @@ pub(crate) fn put_body(body: &Body, out: &mut Vec<u8>)
             put_ballot(*ballot, out);
             put_ballot(*promised, out);
         }
-        Body::Submit { value } => put_value(*value, out),
+        Body::Submit { key } => put_value(*key, out),
         Body::Ask { from } => put_number(*from, out),
         Body::Tell { place, value } => {
             put_number(*place, out);
@@ -251,8 +251,8 @@ fn refused_of(size: u8, bytes: &[u8]) -> Result<(BodyView<'_>, &[u8]), WireFault
 fn submit_of(size: u8, sender: u8, bytes: &[u8]) -> Result<(BodyView<'_>, &[u8]), WireFault>
     ensures { Gives (λ x. (said x.0, x.1.now)) result (submit_at size sender bytes.now) }
 {
-    let (value, taken) = own_keys_of(size, sender, bytes)?;
-    Ok((BodyView::Submit { value }, &bytes[taken..]))
+    let (key, taken) = own_keys_of(size, sender, bytes)?;
+    Ok((BodyView::Submit { key }, &bytes[taken..]))
 }
 
 /// Reads the body of an Ask: a place, at most 65,536.

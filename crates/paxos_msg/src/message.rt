@@ -49,7 +49,7 @@ pub enum Body<V = Value> {
     },
     /// A node asks the leader to put its keys at a place.
     Submit {
-        value: V,
+        key: V,
     },
     /// A node asks for what is learned from a place on, which is at most 65,536.
     Ask {
@@ -106,7 +106,7 @@ pub enum BodyView<'a> {
     },
     /// A node asks the leader to put its keys at a place.
     Submit {
-        value: Value,
+        key: Value,
     },
     /// A node asks for what is learned from a place on, which is at most 65,536.
     Ask {

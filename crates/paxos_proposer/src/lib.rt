@@ -4,8 +4,8 @@
 //! node)?` gives the ballot, and `Proposer::begin(alloc, ballot, from, size)` a proposer for the
 //! places from `from` on. Send a Prepare. Then `on_promise(sender, &view)?` hears each part of a
 //! promise, and returns the place from which to ask that acceptor for more. `next_accept(offered)?`
-//! returns the next proposal, once a majority's promises cover its place. `is_under(ballot)` says
-//! if a Refused ends the proposer.
+//! returns the next proposal, once a majority's promises cover its place. `on_refused(ballot)` says
+//! whether a Refused ends the proposer; then `drop_ballot()` drops it.
 //!
 //! `laws` has empty functions: the contract of each is a law.
 #![tactic(auto)]

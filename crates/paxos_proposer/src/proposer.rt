@@ -238,11 +238,15 @@ impl Proposer {
         Ok(())
     }
 
-    /// Returns true exactly if `ballot` is the proposer's own, so that a Refused for it ends the
-    /// proposer.
-    pub fn is_under(&self, ballot: Ballot) -> bool
+    /// Hears that an acceptor refused `ballot`. Returns true exactly if it is the proposer's own:
+    /// then the proposer is over, and is to be dropped by [`Proposer::drop_ballot`].
+    pub fn on_refused(&self, ballot: Ballot) -> bool
         ensures { IsTrue result ↔ (self.now.known.ballot ≡ ballot) }
     {
         ballot == self.ballot
     }
+
+    /// Drops the ballot, with all that was heard and proposed under it. Nothing is proposed under
+    /// it any more.
+    pub fn drop_ballot(self) {}
 }

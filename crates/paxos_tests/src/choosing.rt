@@ -25,7 +25,7 @@ fn body(alloc: Global, number: u32) -> Body {
             upto: 65536,
             votes: Votes::new(Vec::new(alloc)),
         },
-        3 => Body::Submit { value: first_key() },
+        3 => Body::Submit { key: first_key() },
         _ => Body::Accept {
             ballot: FIRST,
             place: 0,

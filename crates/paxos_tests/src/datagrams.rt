@@ -178,13 +178,7 @@ fn message(number: u32) -> (u8, Body, &'static [u8]) {
             },
             &REFUSED,
         ),
-        2 => (
-            2,
-            Body::Submit {
-                value: key(3, 0x4a),
-            },
-            &SUBMIT,
-        ),
+        2 => (2, Body::Submit { key: key(3, 0x4a) }, &SUBMIT),
         3 => (1, Body::Ask { from: 65536 }, &ASK),
         _ => (
             1,

@@ -1,6 +1,6 @@
 //! A record in a file.
 use super::acceptor::{FIRST, ME, vote_for_none};
-use paxos_acceptor::{Store, StoreFault};
+use paxos_acceptor::{Acceptor, AcceptorFault, Store, StoreFault};
 use paxos_disk::FileStore;
 use paxos_msg::{Change, Record, Value};
 use std::fs;
@@ -167,5 +167,32 @@ fn keeps_a_record_in_a_file(rt: HostRuntime) -> Result<(), Fail> {
         take(&rt, rt, path, &UNREADABLE, 1)?;
     }
     fs::remove_file(&rt, PATH)?;
+    Ok(())
+}
+
+/// Takes the first start of an acceptor over a file, and then the next. Returns what it answered,
+/// and how many faults its store has counted in the end.
+fn start_twice(
+    files: HostRuntime,
+    path: &str,
+) -> Result<(Result<u32, AcceptorFault>, Result<u32, AcceptorFault>, u64), Fail> {
+    let store = FileStore::new(files, path, ME)?;
+    let Ok(mut acceptor) = Acceptor::open(files.alloc(), store, ME) else {
+        return Err(Fail::from("the acceptor is not opened"));
+    };
+    let first = acceptor.new_start();
+    let second = acceptor.new_start();
+    Ok((first, second, acceptor.into_store().faults()))
+}
+
+/// Shows Acceptor::open, Acceptor::new_start (counts): over a file in a folder that is not there an
+/// acceptor is opened, since a missing file is an empty record. Its first start fails at the
+/// device, and closes it, with one fault; the next start finds it closed.
+#[test]
+fn acceptor_without_a_folder(rt: HostRuntime) -> Result<(), Fail> {
+    let (first, second, faults) = start_twice(rt, "no_such_folder/record")?;
+    assert_eq!(rt; first, Err(AcceptorFault::Store));
+    assert_eq!(rt; second, Err(AcceptorFault::Closed));
+    assert_eq!(rt; faults, 1);
     Ok(())
 }

@@ -87,7 +87,7 @@ impl Leader {
             self.proposer.coverage(3),
             self.proposer.is_covered(65_535),
             self.proposer.is_kept_from(3),
-            self.proposer.is_under(refused),
+            self.proposer.on_refused(refused),
         )
     }
 }
@@ -162,7 +162,7 @@ const WORKED: [Event; 9] = [
 /// Shows paxos_msg::decode (found), Proposer::begin, Proposer::on_promise (ok, answer),
 /// Proposer::reserve (ok), Proposer::next_accept (ok, answer, sure), Proposer::proposed,
 /// Proposer::next_place (next), Proposer::coverage (coverage), Proposer::is_covered,
-/// Proposer::is_kept_from, Proposer::ballot, Proposer::is_under: what is proposed after the
+/// Proposer::is_kept_from, Proposer::ballot, Proposer::on_refused: what is proposed after the
 /// promises of two nodes, after a late part, and of an offered key.
 #[test]
 fn worked_promises(rt: HostRuntime) {

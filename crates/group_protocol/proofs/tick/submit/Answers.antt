@@ -1,4 +1,4 @@
 use Rattle.group_protocol.proofs.tick.submit.Goals as goal
 
 pub put-requires-clause-body : goal.put-requires-clause-body
-put-requires-clause-body c = c.requires.batch c.in-Some.value c.in-Some.is
+put-requires-clause-body c = c.requires.batch c.in-Some.key c.in-Some.is

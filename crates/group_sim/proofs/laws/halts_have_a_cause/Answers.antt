@@ -1,5 +1,5 @@
 -- What halts could not have been done.
-use Rattle.std.proofs.Common.{◌≡◌, ℕ, ◌≤◌, Bool, List, [], ◌∷◌, length, Option, None, Ok, Err, arith}
+use Rattle.std.proofs.Common.{◌≡◌, ℕ, ◌≤◌, Bool, List, [], ◌∷◌, length, Option, None, Some, Ok, Err, arith}
 use Rattle.std.specs.List.{filter_map}
 use Rattle.std.proofs.lemmas.Option.{slice_get_within}
 use Rattle.std.proofs.lemmas.Grind.{common_steps}
@@ -12,7 +12,6 @@ use Rattle.group_world.specs.declared.fault.WorldFault.TheVariants.{Memory}
 use Rattle.group_world.specs.Event.{Performs}
 use Rattle.group_world.specs.Group.{World}
 use Rattle.group_world.specs.Refusals.{refusal}
-use Rattle.group_sim.specs.declared.simulation.HaltCause.TheVariants as cause
 use Rattle.group_sim.specs.declared.simulation.ScriptHalt.{ScriptHalt}
 use Rattle.group_sim.specs.declared.simulation.ScriptHalt.TheVariants as halt
 use Rattle.group_sim.specs.Moments.{DeliversOne, HappensAt, Moment, Shows}
@@ -30,12 +29,12 @@ taken w plan a d v h = grind (arith, common_steps, slice_get_within, few_kept)
 
 -- so that it is refused only where memory runs out
 refused : (number : ℕ) (e : Event) (a b c : Moment) (f : WorldFault)
-    → HappensAt number e a (Ok tt) b → HappensAt number e a (Err (halt.For (cause.Refused f))) c → f ≡ Memory
+    → HappensAt number e a (Ok tt) b → HappensAt number e a (Err (halt.For (Some f))) c → f ≡ Memory
 refused number e a b c f h q = let free = taken a.world _ e.act h.1 h.0 h.2 in grind (arith, common_steps, q.0)
 
 -- a delivery that is made is one of those that the settle may make
 too_long : (number k i : ℕ) (to : To) (a b c : Moment) → DeliversOne number k to i a (Ok tt) b
-    → ¬ DeliversOne number k to i a (Err (halt.For cause.TooLong)) c
+    → ¬ DeliversOne number k to i a (Err (halt.For None)) c
 too_long number k i to a b c h q = grind (arith, common_steps)
 
 shown : (size : ℕ) (a b : Moment) (h : ScriptHalt) → Shows size a (Err h) b → h ≡ halt.Unwritten

@@ -1,11 +1,13 @@
 -- A node that has started: it works, and its store had no plan.
 use Rattle.std.proofs.Common.{◌≡◌, false, None, Ok, arith, rules}
 use Rattle.std.proofs.lemmas.Bool.Decides.{nat_tests}
+use Rattle.std.proofs.lemmas.Result.{err_from_is_err_and}
 use Rattle.paxos_acceptor.specs.Follows.{AcceptorState}
 use Rattle.paxos_acceptor.specs.Stores.{StoreKind}
 use Rattle.paxos_acceptor.specs.declared.me.Me.{Me}
 use Rattle.group_protocol.specs.Starting.{StartsOver}
 use Rattle.group_protocol.specs.States.{Protocol}
+use Rattle.group_node.proofs.Starts.{node_begins, start_refused}
 use Rattle.group_node.proofs.node.Node.start.Goals as goal
 
 -- what holds where the acceptor has counted the start
@@ -32,3 +34,17 @@ returns-clause-fresh g c =
 pub returns-clause-plan : goal.returns-clause-plan
 returns-clause-plan g c =
     grind (arith, begun _ _ _ _ c.in_ok-protocol.ensures.over c.in-Ok.ensures.opened.is_open)
+
+pub returns-clause-once : goal.returns-clause-once
+returns-clause-once g c =
+    node_begins g.S.Store.kind c.args.config c.args.store c.in-Ok.acceptor _
+    (rw c.me.ensures.me at c.in-Ok.ensures.once) c.in_ok-protocol.ensures.over
+    c.in_ok-protocol.ensures.known (first_of (search rules, grind (arith, nat_tests)))
+
+pub returns-in_err-protocol-clause-once : goal.returns-in_err-protocol-clause-once
+returns-in_err-protocol-clause-once g c =
+    let p = err_from_is_err_and c.from_residual.result c.from_residual.ensures.1 in
+    rw (p.1, p.2)
+    (start_refused g.S.Store.kind c.args.config c.args.store c.in-Ok.acceptor _
+    (rw c.me.ensures.me at c.in-Ok.ensures.once) c.in_err-protocol.ensures.over
+    (first_of (search rules, grind arith)) (first_of (search rules, grind (arith, nat_tests))))

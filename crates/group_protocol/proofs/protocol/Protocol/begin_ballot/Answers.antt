@@ -19,5 +19,6 @@ invariant_of-self-2 g c =
         size = i.1.size;
         ranges = rw (follows.ok, c.begin.ensures, c.new.ensures, c.known_front-from.ensures.front) fits;
         in_step = λ honest is_open. follows.saved honest ∙ sym follows.ok;
+        loads = λ honest is_open q may. follows.only honest (λ none. grind arith) q may ∙ sym follows.ok;
       },
     )

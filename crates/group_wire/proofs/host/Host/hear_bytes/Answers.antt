@@ -1,7 +1,7 @@
 use Rattle.std.proofs.Common.{rules, ◌∙◌, refl, ap, arith, Err}
 use Rattle.group_wire.specs.declared.answers.Received.TheVariants.{Dropped, Lost}
 use Rattle.group_wire.specs.Arrivals.{Loses, NoMessage, TooLong}
-use Rattle.group_wire.proofs.Hearing.{hears_none, hears_one, refuses_one}
+use Rattle.group_wire.proofs.Hearing.{hears_none, hears_one, refuses_one, was_open}
 use Rattle.group_wire.proofs.host.Host.hear_bytes.Goals as goal
 
 pub returns-then-bytes-gt-LONGEST_DATAGRAM-clause-hears : goal.returns-then-bytes-gt-LONGEST_DATAGRAM-clause-hears
@@ -21,7 +21,8 @@ returns-in_err-unless_memory-clause-hears g c from came =
     (refuses_one g.S.Store.kind _ _ _ c.in-Ok.view c.in-Err.fault _ c.self.invariant.0 (search rules)
     done.sends.does.err c.on_message.ensures.responds.sends.progress (c.tell.ensures.passed ∙ came) (search rules)
     (λ is_store none. done.saves.never none (ap Err is_store))
-    (λ honest is_store. done.saves.device honest (ap Err is_store)))
+    (λ honest is_store. done.saves.device honest (ap Err is_store))
+    (λ honest is_store. done.saves.left honest (was_open done.sends.let_in (ap Err is_store))))
 
 pub returns-in_err-unless_memory-clause-refused : goal.returns-in_err-unless_memory-clause-refused
 returns-in_err-unless_memory-clause-refused g c =

@@ -1,0 +1,27 @@
+use Rattle.group_rules.specs.Claims.{ConsolesAgree, ConsolesGrow, ConsolesHoldOutput, HasNoGap, KeysOnce, LearnedAgree, LearnedChosen, LearnedStays, ConsolesShowReleased, SerialsInOrder}
+use Rattle.group_disk.proofs.DiskClaims.{disks_leave, later_of_disks, of_disks, released_over_disks, seen_alike, shows_over_disks, up_as_run}
+use Rattle.group_disk.proofs.laws.disks_headline.Goals as goal
+
+pub returns : goal.returns
+returns c =
+    let claims = c.runs_headline.ensures in
+    record {
+      nodes = disks_leave c.disk_logs_are_kept.ensures claims.nodes;
+      fronts = c.fronts_of_disks.ensures;
+      as_run = up_as_run;
+      alike = λ p group restarts log now other size session.
+          seen_alike (shows_over_disks claims.shows_runs) (released_over_disks claims.only_released)
+          c.prefixes_are_ordered.ensures.both p group restarts log size session now other;
+      learned_agree = of_disks LearnedAgree claims.learned_agree;
+      learned_chosen = of_disks LearnedChosen claims.learned_chosen;
+      consoles_hold_output = of_disks ConsolesHoldOutput claims.consoles_hold_output;
+      consoles_agree = of_disks ConsolesAgree claims.consoles_agree;
+      no_gap = of_disks HasNoGap claims.no_gap;
+      key_once = of_disks KeysOnce claims.key_once;
+      serials_in_order = of_disks SerialsInOrder claims.serials_in_order;
+      shows_released = of_disks ConsolesShowReleased claims.shows_released;
+      shows_runs = shows_over_disks claims.shows_runs;
+      only_released = released_over_disks claims.only_released;
+      learned_stays = later_of_disks claims.fronts claims.nodes LearnedStays claims.learned_stays;
+      consoles_grow = later_of_disks claims.fronts claims.nodes ConsolesGrow claims.consoles_grow;
+    }

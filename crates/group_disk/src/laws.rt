@@ -1,0 +1,137 @@
+//! Laws of processes over disks.
+ghost use Rattle.std.specs.Prelude.{ℕ, Bool, [], ◌∷◌, ◌++◌, Err, List, Option, Result};
+ghost use Rattle.pcode_file.specs.Parts.{Parts};
+ghost use Rattle.paxos_msg.specs.declared.message.Group.{Group};
+ghost use Rattle.paxos_msg.specs.Batches.{Record};
+ghost use Rattle.paxos_msg.specs.Fits.{IsGroup};
+ghost use Rattle.paxos_acceptor.specs.declared.me.Me.{Me};
+ghost use Rattle.paxos_disk.specs.Disks.{Folder};
+ghost use Rattle.paxos_disk.specs.Found.{LoadsOnly, disk_kind};
+ghost use Rattle.paxos_disk.specs.Reads.{LogState};
+ghost use Rattle.group_protocol.specs.declared.start.StartRefused.{StartRefused};
+ghost use Rattle.group_wire.specs.Starts.{HasStarted};
+ghost use Rattle.group_udp.specs.declared.fault.GroupFault.{GroupFault};
+ghost use Rattle.node_run.specs.declared.cycles.RunPlan.{RunPlan};
+ghost use Rattle.node_run.specs.Going.{Around};
+ghost use Rattle.node_run.specs.Runs.{RunsNode};
+ghost use Rattle.group_protocol.specs.States.{IsSize};
+ghost use Rattle.group_rules.specs.Claims.{ConsolesAgree, ConsolesGrow, ConsolesHoldOutput, HasNoGap, KeysOnce, LearnedAgree, LearnedChosen, LearnedStays, ConsolesShowReleased, SerialsInOrder};
+ghost use Rattle.group_world.specs.Member.{Member};
+ghost use Rattle.group_world.specs.Processes.{Entry};
+ghost use Rattle.group_disk.specs.Wrong.{MayCampaign, taken_back};
+ghost use Rattle.paxos_msg.specs.Records.{empty_record};
+ghost use Rattle.group_process.specs.Runs.{AreRuns, Attempt, ConsolesAreReleased, ConsolesShowRuns, IsOver, Starts};
+ghost use Rattle.group_disk.specs.Folders.{AreOverDisk, DiskStart, IsFolderLog, IsOverDisk, LeavesNoMoreThan, start_over, starts_of};
+ghost use Rattle.group_disk.specs.Headline.{AlwaysLaterOfDisks, AlwaysOfDiskNodes, AlwaysOfDisks, AreSeenAlike, AreUpAsRun, DisksLeaveNodes, HasFirstStarts, IsAfterDisks};
+ghost use Rattle.group_disk.specs.Restarts.{AreChosenRuns, AreRestarts, AreSeenSame, HasKeptLog, HaveRuns, IsDiskLog};
+
+use group_process::laws::runs_headline;
+use paxos_disk::Disk;
+use pcode_machine::laws::prefixes_are_ordered;
+
+/// Starts over a disk are runs over a store that keeps its record, with the same deeds.
+pub fn restarts_are_runs()
+    ensures { (p : Parts) (me : Me) (kept : Record) (restarts : List Attempt)
+        → AreRestarts p me (kept ∷ []) restarts → HaveRuns p me kept restarts }
+{}
+
+/// Of the runs that are chosen all that is seen is the same.
+pub fn chosen_runs_are_seen_same()
+    ensures { (me : Me) (restarts runs : List Attempt) → AreChosenRuns restarts runs
+        → AreSeenSame me restarts runs }
+{}
+
+/// Starts over the folder of a disk from which a restart may load these records are such starts.
+pub fn folders_restart()
+    ensures { (p : Parts) (me : Me) (folder : Folder) (found : List Record)
+        (starts : List DiskStart) → LoadsOnly folder found → AreOverDisk p me folder starts
+        → AreRestarts p me found (starts_of starts) }
+{}
+
+/// A log over disks is one over stores that keep their records.
+pub fn disk_logs_are_kept()
+    ensures { (p : Parts) (group : Group) (restarts : ℕ → List Attempt) (log : List Entry)
+        → IsDiskLog p group restarts log → HasKeptLog p group restarts log }
+{
+    restarts_are_runs();
+}
+
+/// A log over folders that had no record at first is a log over disks.
+pub fn folder_logs_are_disk_logs()
+    ensures { (p : Parts) (group : Group) (folder : ℕ → Folder) (starts : ℕ → List DiskStart)
+        (log : List Entry) → IsFolderLog p group folder starts log
+        → IsDiskLog p group (λ i. starts_of (starts i)) log }
+{
+    folders_restart();
+}
+
+/// Each front of a log over disks is one too.
+pub fn fronts_of_disks()
+    ensures { (p : Parts) (group : Group) (restarts : ℕ → List Attempt) (log more : List Entry)
+        → IsDiskLog p group restarts (log ++ more) → HasFirstStarts p group restarts log }
+{}
+
+/// The main theorem for processes over disks.
+pub fn disks_headline()
+    ensures nodes { (p : Parts) (group : Group) (restarts : ℕ → List Attempt) (log : List Entry)
+        → IsDiskLog p group restarts log → DisksLeaveNodes p group restarts log }
+    ensures fronts { (p : Parts) (group : Group) (restarts : ℕ → List Attempt)
+        (log more : List Entry) → IsDiskLog p group restarts (log ++ more)
+        → HasFirstStarts p group restarts log }
+    ensures as_run { (p : Parts) (group : Group) (restarts : ℕ → List Attempt) (log : List Entry)
+        (now : List Member) → IsDiskLog p group restarts log
+        → IsAfterDisks p group restarts log now → AreUpAsRun group restarts now }
+    ensures alike { (p : Parts) (group : Group) (restarts : ℕ → List Attempt) (log : List Entry)
+        (now other : List Member) → IsSize group.size → IsGroup group
+        → IsDiskLog p group restarts log → IsAfterDisks p group restarts log now
+        → IsAfterDisks p group restarts log other → AreSeenAlike group now other }
+    ensures learned_agree { AlwaysOfDisks LearnedAgree }
+    ensures learned_chosen { AlwaysOfDisks LearnedChosen }
+    ensures consoles_hold_output { AlwaysOfDisks ConsolesHoldOutput }
+    ensures consoles_agree { AlwaysOfDisks ConsolesAgree }
+    ensures no_gap { AlwaysOfDisks HasNoGap }
+    ensures key_once { AlwaysOfDisks KeysOnce }
+    ensures serials_in_order { AlwaysOfDisks SerialsInOrder }
+    ensures shows_released { AlwaysOfDisks ConsolesShowReleased }
+    ensures shows_runs { AlwaysOfDiskNodes ConsolesShowRuns }
+    ensures only_released { AlwaysOfDiskNodes ConsolesAreReleased }
+    ensures learned_stays { AlwaysLaterOfDisks LearnedStays }
+    ensures consoles_grow { AlwaysLaterOfDisks ConsolesGrow }
+{
+    disk_logs_are_kept();
+    fronts_of_disks();
+    runs_headline();
+    prefixes_are_ordered();
+}
+
+/// Call by call starts over a disk are no runs over a store that keeps its record, however the
+/// outcomes of the failed saves are chosen. So starts that nobody saw may have to be left out.
+pub fn a_promise_is_taken_back()
+    ensures may { (p : Parts) (me : Me) (loaded : Record) (a b c : Bool)
+        → MayCampaign p me loaded
+        → AreRestarts p me (loaded ∷ []) (taken_back p me loaded a b c) }
+    ensures not { (p : Parts) (me : Me) (loaded : Record) (a b c : Bool)
+        → ¬ AreRuns p me loaded (taken_back p me loaded a b c) }
+    ensures some { (p : Parts) (me : Me) → MayCampaign p me empty_record }
+{}
+
+/// A run over an honest disk is a start of its node over the folder of that disk, whichever of the
+/// two records a failed save has left. One that is refused is a start whose save failed, or it
+/// leaves nothing to load that could not be loaded before.
+///
+/// So the runs of `run_over_disk`, one after the other over a disk to which nobody else writes, are
+/// starts over its folders.
+pub fn runs_are_starts<D: Disk>()
+    ensures runs { (p : Parts) (me : Me) (store end : LogState D) (plan : RunPlan)
+        (from to : Around) (before after : Option (List ℕ))
+        (result : Result (Unit {0}) GroupFault)
+        (h : RunsNode (disk_kind D.honest D.folder) me p store end plan from to before after result)
+        (is_changed : Bool) (rest : List DiskStart) → D.honest
+        → IsOverDisk p me (start_over (D.folder store.disk)
+        (Starts (record { process = h.runs.process; last = h.last; stand = IsOver is_changed }))
+        (D.folder end.disk)) rest }
+    ensures refused { (p : Parts) (me : Me) (store : LogState D)
+        (refused : StartRefused (LogState D)) (rest : List DiskStart) → D.honest
+        → HasStarted (disk_kind D.honest D.folder) me p store (Err refused)
+        → LeavesNoMoreThan p me (D.folder store.disk) (D.folder refused.store.disk) rest }
+{}

@@ -1,0 +1,8 @@
+use Rattle.std.proofs.Common.{inr}
+use Rattle.node_run.proofs.OverFile.{over_file}
+use Rattle.node_run.proofs.run.run_over_file.Goals as goal
+
+pub returns : goal.returns
+returns g c = record {
+  ends = inr (c.run_over_disk-end.result.store.filed, over_file _ c.args.config c.args.program.now c.run_over_disk-end.ensures.ends);
+}
