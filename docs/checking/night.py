@@ -1,0 +1,211 @@
+"""docs/NIGHT.md has each message that a person may meet: of the scripts, with the codes of the
+program and the lines of a node's log.
+
+A message of a Python script is any text in it of two words or more, whichever call prints it. A
+message of a bash script is a quoted text of two words behind `say`, `echo` or `printf`, or given
+to `why`. What is filled in may be anything in the page. A text of the page that ends with `..` has
+the beginning of a message, at least three words of it.
+
+Not seen: messages of one word, the sentences of the system (`No space left on device`), what the
+page says in a browser by its own scripts (`paging/static`), and what is said of wrong arguments.
+"""
+import ast
+import os
+import re
+
+from . import pages, tree, widths
+from .tree import fault, text_of
+
+PATH = "docs/NIGHT.md"
+PYTHON, BASH = "tools/group", ("run", "console", "tools/bash")
+# The functions whose texts are no messages: patterns, fields, and what is said of wrong arguments,
+# each with `usage:` before it, for which the page has one row.
+SPARED_CALLS = {
+    "error", "ArgumentTypeError", "namedtuple", "compile", "match", "fullmatch", "search", "sub",
+    "findall",
+}
+SPARED_KEYWORDS = {"help", "metavar", "description"}
+# The modules without messages, and why.
+OTHER_MODULES = {
+    "tools/group/shared/codes.py": "the sentences of the codes, of which the page has the codes",
+    "tools/group/shared/drawing/": "what stands in a picture",
+    "tools/group/shared/asking/forms.py": "the help of metrics, for other programs",
+    "tools/group/shared/asking/texts.py": "the bytes of questions and answers",
+}
+# Single texts that are no messages, and why. A NUL stands for what is filled in.
+BYTES = "the bytes of a datagram or a file, which FORMATS has"
+ANSWER = "the head of an answer to a browser"
+OTHER_TEXTS = {
+    "pgroup beat": BYTES,
+    "pgroup seen": BYTES,
+    "pgroup console synced \0 boot": BYTES,
+    "=\0; HttpOnly; SameSite=Strict; Path=/": ANSWER,
+    "text/event-stream; charset=utf-8": ANSWER,
+    "event: \0 data": ANSWER,
+    "GET, HEAD, POST": ANSWER,
+    "default-src 'none'; script-src 'self'; style-src 'self'; connect-src 'self'; img-src 'self'; "
+    "base-uri 'none'; form-action 'none'; frame-ancestors 'none'": ANSWER,
+    "usage: screens.py \0 [--lf]": "`console` alone calls that, and with right arguments",
+    "line 1 refused script": "it stands in the page with N for the number",
+}
+# The table of FORMATS with the lines of a node's log.
+LOG = "| What it says | Its fields |\n|---|---|\n"
+LEAST = 3
+FILL = re.compile("\0|\\{\\w+\\}")
+WORD = re.compile(r"[A-Za-z]{2,}")
+
+
+class Message:
+    """A text, with a NUL for what is filled in, and where it stands."""
+
+    def __init__(self, place, text):
+        self.place = place
+        self.text = " ".join(FILL.sub("\0", text).split()).strip(" \0,.:;()\n")
+
+    def shown(self):
+        return self.text.replace("\0", "..")
+
+    def is_one(self):
+        return len(WORD.findall(self.text)) > 1 and " " in self.text
+
+    def is_in(self, spans):
+        whole = pattern_of(self.text)
+        return any(re.search(whole, it) for it in spans) or self.begins_in(spans)
+
+    def begins_in(self, spans):
+        """Whether a text of the page that ends with `..` has the beginning of it."""
+        words = self.text.split(" ")
+        begin = [it for it in words[:LEAST] if "\0" not in it]
+        for span in spans:
+            head = span[:-2].rstrip(" ,:;.")
+            if span.endswith("..") and all(it in head for it in begin):
+                for count in range(len(words) - 1, LEAST - 1, -1):
+                    part = " ".join(words[:count]).rstrip(",:;.")
+                    is_enough = len(WORD.findall(part)) >= LEAST
+                    if is_enough and re.search(pattern_of(part) + "$", head):
+                        return True
+        return False
+
+
+def pattern_of(text):
+    pattern = re.escape(text).replace(re.escape("\0"), ".*").replace("\0", ".*")
+    return rf"(?<!\w){pattern}(?!\w)"
+
+
+def name_of_call(node):
+    return getattr(node.func, "attr", getattr(node.func, "id", ""))
+
+
+def spared_by_call(node):
+    """What goes to some calls and keywords."""
+    if name_of_call(node) in SPARED_CALLS:
+        yield from node.args
+    yield from (it.value for it in node.keywords if it.arg in SPARED_KEYWORDS)
+
+
+def spared_names(function):
+    """The help texts that a function gives names before it hands them on."""
+    given = [it.value for it in ast.walk(function)
+             if isinstance(it, ast.keyword) and it.arg in SPARED_KEYWORDS]
+    names = {it.id for value in given for it in ast.walk(value) if isinstance(it, ast.Name)}
+    for it in function.body:
+        if isinstance(it, ast.Assign) and getattr(it.targets[0], "id", None) in names:
+            yield it
+
+
+def spared_in(parsed):
+    """The nodes of a parsed script that are no messages: docstrings, help texts, and what goes to
+    some calls."""
+    found = set()
+    for node in ast.walk(parsed):
+        if isinstance(node, (ast.Module, ast.ClassDef, ast.FunctionDef)):
+            if ast.get_docstring(node, clean=False) is not None:
+                found.add(node.body[0])
+        if isinstance(node, ast.FunctionDef):
+            found.update(spared_names(node))
+        if isinstance(node, ast.Call):
+            found.update(spared_by_call(node))
+    return found
+
+
+def texts_in(node, spared):
+    """The texts below a node of a parsed script, each with its line."""
+    if node in spared:
+        return
+    if isinstance(node, ast.Constant) and isinstance(node.value, str):
+        yield node.lineno, node.value
+    elif isinstance(node, ast.JoinedStr):
+        parts = [it.value if isinstance(it, ast.Constant) else "\0" for it in node.values]
+        yield node.lineno, "".join(parts)
+    for it in ast.iter_child_nodes(node):
+        # The parts of a text are no texts of their own, but what is filled in may have some.
+        if not (isinstance(node, ast.JoinedStr) and isinstance(it, ast.Constant)):
+            yield from texts_in(it, spared)
+
+
+def messages_of_python(path):
+    parsed = ast.parse(text_of(path))
+    for line, text in texts_in(parsed, spared_in(parsed)):
+        yield Message(f"{path}:{line}", text)
+
+
+SAYS = re.compile(r"""(?:\b(?:say|echo|printf)\b|\bwhy=|\bwhat\+?=|^ +(?=["']))""")
+QUOTED = re.compile(r""""((?:[^"\\]|\\.)*)"|'([^']*)'""")
+FILLED = re.compile(r"\$\((?:[^()]|\([^()]*\))*\)|\$\{[^}]*\}|\$[\w*@#]+")
+# A text that stands in if a variable is empty.
+INSTEAD = re.compile(r"""\$\{\w+:-(".*")\}""")
+
+
+def messages_of_bash(path):
+    for number, line in enumerate(text_of(path).split("\n"), 1):
+        if SAYS.search(line) and not line.lstrip().startswith("#"):
+            # What is filled in may have quotes of its own.
+            line = FILLED.sub("\0", INSTEAD.sub(r"\1", line))
+            for it in QUOTED.finditer(line):
+                text = (it[1] or it[2] or "").replace("%s", "\0").replace("\\n", " ")
+                yield Message(f"{path}:{number}", text)
+
+
+def messages():
+    """The messages of all scripts."""
+    for path, language in widths.scripts():
+        if language == "python" and path.startswith(f"{PYTHON}/"):
+            if not path.startswith(tuple(OTHER_MODULES)):
+                yield from messages_of_python(path)
+        elif language == "sh" and (path in BASH or os.path.dirname(path) in BASH):
+            yield from messages_of_bash(path)
+
+
+def lines_of_log():
+    table = text_of("docs/FORMATS.md").partition(LOG)[2].partition("\n\n")[0]
+    for line in table.split("\n"):
+        for span in re.findall(r"`([^`]+)`", tree.cells_of(line)[0]):
+            yield span
+
+
+def spans_of_page():
+    """The texts between backticks in the page."""
+    found = re.findall(r"(?<!`)(`+)(?!`)(.+?)(?<!`)\1(?!`)", text_of(PATH))
+    return [" ".join(it[1].split()) for it in found]
+
+
+def check():
+    spans, seen = spans_of_page(), set()
+    for it in messages():
+        if not it.is_one() or it.text in seen:
+            continue
+        seen.add(it.text)
+        if it.text not in OTHER_TEXTS and not it.is_in(spans):
+            fault(f"{it.place}: {PATH} has no row for the message `{it.shown()}`")
+    for text in sorted(OTHER_TEXTS.keys() - seen):
+        fault(f"docs/checking/night.py: no script has the text `{text}`, which is no message")
+    codes = {code for code, _ in pages.codes_of_program() if code}
+    for code in sorted(codes):
+        if not any(re.search(rf"(?<!\w){code}(?!\w)", it) for it in spans):
+            fault(f"{PATH}: has no row for the code {code}")
+    log = list(lines_of_log())
+    for line in log:
+        if line not in spans:
+            fault(f"{PATH}: has no row for the line `{line}` of a node's log")
+    if not (codes and log):
+        fault(f"docs/checking/night.py: finds no codes, or no lines of a node's log")
