@@ -69,8 +69,9 @@ class Message:
         return len(WORD.findall(self.text)) > 1 and " " in self.text
 
     def is_in(self, spans):
-        whole = pattern_of(self.text)
-        return any(re.search(whole, it) for it in spans) or self.begins_in(spans)
+        whole, longest = pattern_of(self.text), max(self.text.split("\0"), key=len)
+        found = any(longest in it and re.search(whole, it) for it in spans)
+        return found or self.begins_in(spans)
 
     def begins_in(self, spans):
         """Whether a text of the page that ends with `..` has the beginning of it."""
@@ -103,26 +104,31 @@ def spared_by_call(node):
     yield from (it.value for it in node.keywords if it.arg in SPARED_KEYWORDS)
 
 
-def spared_names(function):
+def names_for_help(nodes):
+    """The names of variables that go to `help=` and the like."""
+    given = [it.value for it in nodes if isinstance(it, ast.keyword) and it.arg in SPARED_KEYWORDS]
+    return {it.id for value in given for it in ast.walk(value) if isinstance(it, ast.Name)}
+
+
+def spared_names(function, names):
     """The help texts that a function gives names before it hands them on."""
-    given = [it.value for it in ast.walk(function)
-             if isinstance(it, ast.keyword) and it.arg in SPARED_KEYWORDS]
-    names = {it.id for value in given for it in ast.walk(value) if isinstance(it, ast.Name)}
-    for it in function.body:
-        if isinstance(it, ast.Assign) and getattr(it.targets[0], "id", None) in names:
-            yield it
+    found = [it for it in function.body
+             if isinstance(it, ast.Assign) and getattr(it.targets[0], "id", None) in names]
+    own = names_for_help(ast.walk(function)) if found else ()
+    return [it for it in found if it.targets[0].id in own]
 
 
 def spared_in(parsed):
     """The nodes of a parsed script that are no messages: docstrings, help texts, and what goes to
     some calls."""
-    found = set()
-    for node in ast.walk(parsed):
+    found, nodes = set(), list(ast.walk(parsed))
+    names = names_for_help(nodes)
+    for node in nodes:
         if isinstance(node, (ast.Module, ast.ClassDef, ast.FunctionDef)):
             if ast.get_docstring(node, clean=False) is not None:
                 found.add(node.body[0])
         if isinstance(node, ast.FunctionDef):
-            found.update(spared_names(node))
+            found.update(spared_names(node, names))
         if isinstance(node, ast.Call):
             found.update(spared_by_call(node))
     return found
@@ -179,8 +185,7 @@ def messages():
 def lines_of_log():
     table = text_of("docs/FORMATS.md").partition(LOG)[2].partition("\n\n")[0]
     for line in table.split("\n"):
-        for span in re.findall(r"`([^`]+)`", tree.cells_of(line)[0]):
-            yield span
+        yield from re.findall(r"`([^`]+)`", line.split(" | ")[0])
 
 
 def spans_of_page():
@@ -198,7 +203,8 @@ def check():
         if it.text not in OTHER_TEXTS and not it.is_in(spans):
             fault(f"{it.place}: {PATH} has no row for the message `{it.shown()}`")
     for text in sorted(OTHER_TEXTS.keys() - seen):
-        fault(f"docs/checking/night.py: no script has the text `{text}`, which is no message")
+        shown = text.replace("\0", "..")
+        fault(f"docs/checking/night.py: no script has the text `{shown}`, which is no message")
     codes = {code for code, _ in pages.codes_of_program() if code}
     for code in sorted(codes):
         if not any(re.search(rf"(?<!\w){code}(?!\w)", it) for it in spans):
