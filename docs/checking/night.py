@@ -1,10 +1,10 @@
-"""docs/NIGHT.md has each message that a person may meet: of the scripts, with the codes of the
-program and the lines of a node's log.
+"""docs/NIGHT.md has each message that a person may meet: those of the scripts of groups, ./run and
+./console, the codes and answers of the program, and the lines of a node's log.
 
 A message of a Python script is any text in it of two words or more, whichever call prints it. A
-message of a bash script is a quoted text of two words behind `say`, `echo` or `printf`, or given
-to `why`. What is filled in may be anything in the page. A text of the page that ends with `..` has
-the beginning of a message, at least three words of it.
+message of a bash script is a quoted text of two words or more in a line that has `say`, `echo`,
+`printf`, `why=` or `what=`, or that begins with the quote. What is filled in may be anything in the
+page. A text of the page that ends with `..` has the beginning of a message, at least three words.
 
 Not seen: messages of one word, the sentences of the system (`No space left on device`), what the
 page says in a browser by its own scripts (`paging/static`), and what is said of wrong arguments.
@@ -48,8 +48,9 @@ OTHER_TEXTS = {
     "usage: screens.py \0 [--lf]": "`console` alone calls that, and with right arguments",
     "line 1 refused script": "it stands in the page with N for the number",
 }
-# The table of FORMATS with the lines of a node's log.
+# The tables of FORMATS with the lines of a node's log, and with the answers of the program.
 LOG = "| What it says | Its fields |\n|---|---|\n"
+ANSWERS = "| Answer | Meaning | What to do |\n|---|---|---|\n"
 LEAST = 3
 FILL = re.compile("\0|\\{\\w+\\}")
 WORD = re.compile(r"[A-Za-z]{2,}")
@@ -182,8 +183,9 @@ def messages():
             yield from messages_of_bash(path)
 
 
-def lines_of_log():
-    table = text_of("docs/FORMATS.md").partition(LOG)[2].partition("\n\n")[0]
+def lines_of(head):
+    """The texts of the first column of the table of FORMATS that begins so."""
+    table = text_of("docs/FORMATS.md").partition(head)[2].partition("\n\n")[0]
     for line in table.split("\n"):
         yield from re.findall(r"`([^`]+)`", line.split(" | ")[0])
 
@@ -205,13 +207,18 @@ def check():
     for text in sorted(OTHER_TEXTS.keys() - seen):
         shown = text.replace("\0", "..")
         fault(f"docs/checking/night.py: no script has the text `{shown}`, which is no message")
+    check_program(spans)
+
+
+def check_program(spans):
+    """The page has what the program prints: its codes, its answers, and the lines of a log."""
     codes = {code for code, _ in pages.codes_of_program() if code}
     for code in sorted(codes):
         if not any(re.search(rf"(?<!\w){code}(?!\w)", it) for it in spans):
             fault(f"{PATH}: has no row for the code {code}")
-    log = list(lines_of_log())
-    for line in log:
+    log, answers = list(lines_of(LOG)), list(lines_of(ANSWERS))
+    for line in log + [it for it in answers if it.split(" ")[-1] not in codes]:
         if line not in spans:
-            fault(f"{PATH}: has no row for the line `{line}` of a node's log")
-    if not (codes and log):
-        fault(f"docs/checking/night.py: finds no codes, or no lines of a node's log")
+            fault(f"{PATH}: has no row for the line `{line}` of the program")
+    if not (codes and log and answers):
+        fault("docs/checking/night.py: finds no codes, no lines of a log, or no answers")

@@ -64,9 +64,11 @@ CHANGES = [
      [f"{ROW} the code D13"]),
     ("a new line of a log", FORMATS, r"^\| `program ended` \| \|$",
      "| `program ended` | |\n| `burns at PATH` | |",
-     [f"{ROW} the line `burns at PATH` of a node's log"]),
+     [f"{ROW} the line `burns at PATH` of the program"]),
+    ("a new answer", FORMATS, r"^\| `waits`, status 0 \|", "| `burns`, status 5 | | |\n\\g<0>",
+     [f"{ROW} the line `burns` of the program"]),
     ("a log that is not found", FORMATS, r"^\| What it says \| Its fields \|$", "| Line | |",
-     ["finds no codes, or no lines of a node's log"]),
+     ["finds no codes, no lines of a log, or no answers"]),
     ("an exception that nothing needs", SERVER, "GET, HEAD, POST", "GET",
      ["no script has the text `GET, HEAD, POST`, which is no message"]),
 ]
