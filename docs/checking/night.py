@@ -48,6 +48,19 @@ OTHER_TEXTS = {
     "usage: screens.py \0 [--lf]": "`console` alone calls that, and with right arguments",
     "line 1 refused script": "it stands in the page with N for the number",
 }
+# The texts in the first column of the page's tables that are no such messages, and why.
+SHORT = "it has one word that is not filled in"
+SYSTEMD = "systemd prints it"
+TOOL = "the name of a tool, whose messages are not looked at"
+OTHER_ROWS = {
+    "last source ADDR": "the end of the line about dropped datagrams",
+    "process P (..)": SHORT, "RECORD is a folder": SHORT, ".. is a pipe": SHORT,
+    "node N: down; ..": SHORT, "RECORD: damaged: ..": SHORT, "programs": SHORT, "sizes": SHORT,
+    "usage: ..": "Python's argparse prints it",
+    "pgroup-compile": TOOL, "pgroup-translate": TOOL, "pgroup-volume": TOOL,
+    "status=1/FAILURE": SYSTEMD, "status=2/INVALIDARGUMENT": SYSTEMD,
+    "status=3/NOTIMPLEMENTED": SYSTEMD, "Dependency failed for ..": SYSTEMD,
+}
 # The tables of FORMATS with the lines of a node's log, and with the answers of the program.
 LOG = "| What it says | Its fields |\n|---|---|\n"
 ANSWERS = "| Answer | Meaning | What to do |\n|---|---|---|\n"
@@ -190,14 +203,30 @@ def lines_of(head):
         yield from re.findall(r"`([^`]+)`", line.split(" | ")[0])
 
 
-def spans_of_page():
-    """The texts between backticks in the page."""
-    found = re.findall(r"(?<!`)(`+)(?!`)(.+?)(?<!`)\1(?!`)", text_of(PATH))
+def spans_in(text):
+    """The texts between backticks."""
+    found = re.findall(r"(?<!`)(`+)(?!`)(.+?)(?<!`)\1(?!`)", text)
     return [" ".join(it[1].split()) for it in found]
 
 
+def codes_of_program():
+    return {code for code, _ in pages.codes_of_program() if code}
+
+
+def check_rows():
+    """What stands in the first column of the page's tables is printed by something."""
+    first = [tree.cells_of(it)[0] for it in text_of(PATH).split("\n") if it.startswith("|")]
+    known = {*codes_of_program(), *lines_of(LOG), *lines_of(ANSWERS), *OTHER_ROWS}
+    all_messages, spans = [it for it in messages() if it.is_one()], spans_in("\n".join(first))
+    for span in spans:
+        if span not in known and not any(it.is_in([span]) for it in all_messages):
+            fault(f"{PATH}: has a row for `{span}`, which nothing prints")
+    for span in sorted(OTHER_ROWS.keys() - set(spans)):
+        fault(f"docs/checking/night.py: {PATH} has no row for `{span}`, an exception")
+
+
 def check():
-    spans, seen = spans_of_page(), set()
+    spans, seen = spans_in(text_of(PATH)), set()
     for it in messages():
         if not it.is_one() or it.text in seen:
             continue
@@ -212,7 +241,7 @@ def check():
 
 def check_program(spans):
     """The page has what the program prints: its codes, its answers, and the lines of a log."""
-    codes = {code for code, _ in pages.codes_of_program() if code}
+    codes = codes_of_program()
     for code in sorted(codes):
         if not any(re.search(rf"(?<!\w){code}(?!\w)", it) for it in spans):
             fault(f"{PATH}: has no row for the code {code}")

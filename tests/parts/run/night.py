@@ -74,7 +74,9 @@ CHANGES = [
 ]
 
 
-class OfMessages(Checks):
+class OfCopy(Checks):
+    """A copy of some files of this repository, at which docs/check looks."""
+
     maxDiff = None
 
     def setUp(self):
@@ -89,12 +91,15 @@ class OfMessages(Checks):
     def at(self, name):
         return os.path.join(self.room, name)
 
-    def says(self, what, faults):
+    def says(self, what, faults, look=night.check):
         """Checks what is said, without the place at the begin of each line."""
         with self.check(f"docs/NIGHT.md: {what}"):
             tree.FAULTS.clear()
-            night.check()
+            look()
             self.assertEqual([it.partition(": ")[2] for it in tree.FAULTS], faults)
+
+
+class OfMessages(OfCopy):
 
     def put_back(self, path, data):
         with open(self.at(path), "wb") as file:
@@ -114,3 +119,26 @@ class OfMessages(Checks):
             replace(self.at(path), old, now)
             self.says(what, faults)
             self.put_back(path, before)
+
+
+class OfRows(OfCopy):
+    """All scripts are there, since a row may be for any of them."""
+
+    def setUp(self):
+        super().setUp()
+        for name in ("tools/group", "tools/bash"):
+            shutil.rmtree(self.at(name))
+            shutil.copytree(os.path.join(TOP, name), self.at(name))
+
+    def test_rows(self):
+        self.says("its rows", [], night.check_rows)
+        row = "| `the node burns`, `D99`, `no room for ..` | It burns | `put it out` |"
+        replace(self.at(PAGE), r"^\| `program ended`", f"{row}\n\\g<0>")
+        nothing = "which nothing prints"
+        self.says("rows for what nothing prints",
+                  [f"has a row for `the node burns`, {nothing}", f"has a row for `D99`, {nothing}"],
+                  night.check_rows)
+        shutil.copy(os.path.join(TOP, PAGE), self.at(PAGE))
+        replace(self.at(PAGE), r"^\| `usage: \.\.`.*\n", "")
+        self.says("an exception without its row",
+                  [f"{PAGE} has no row for `usage: ..`, an exception"], night.check_rows)
