@@ -6,3 +6,4 @@ mod TakenBack
 mod SeenSame
 mod DiskFronts
 mod DiskRuns
+mod RunsWrite

@@ -1,8 +1,8 @@
 -- What is seen of the runs that are chosen.
 use Rattle.std.proofs.Common.{◌≡◌, ◌∙◌, List, [], ◌∷◌, map, inl, inr, refl, ap}
 use Rattle.paxos_acceptor.specs.declared.me.Me.{Me}
-use Rattle.group_process.specs.Runs.{Attempt, FailsToStart, NodeRun, Starts, run_output}
-use Rattle.group_disk.specs.Restarts.{AreChosenRuns, AreSeenSame, runs_in}
+use Rattle.group_process.specs.Runs.{Attempt, FailsToStart, NodeRun, Starts, run_output, runs_in}
+use Rattle.group_disk.specs.Restarts.{AreChosenRuns, AreSeenSame}
 use Rattle.group_disk.proofs.DiskClaims.{sent_same, typed_same}
 use Rattle.group_disk.proofs.KeptLogs.{all_chosen}
 

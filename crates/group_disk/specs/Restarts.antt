@@ -12,7 +12,7 @@ use Rattle.paxos_acceptor.specs.declared.me.Me.{Me}
 use Rattle.group_wire.specs.Process.{IsProcess}
 use Rattle.group_world.specs.declared.event.Outcome.{Outcome}
 use Rattle.group_world.specs.Processes.{Entry, IsCarried, entries_of, sent_in, typed_in}
-use Rattle.group_process.specs.Runs.{AreInTurn, AreRuns, Attempt, FailsToStart, GoesOn, IsGroupLog, IsLastIfOn, IsOver, NodeRun, Stand, Starts, entries_of_attempt, record_by, run_output}
+use Rattle.group_process.specs.Runs.{AreInTurn, AreRuns, Attempt, FailsToStart, GoesOn, IsGroupLog, IsLastIfOn, IsOver, Stand, Starts, entries_of_attempt, record_by, run_output, runs_in}
 
 -- ---- one node
 
@@ -58,12 +58,6 @@ AreChosenRuns (FailsToStart loaded is_changed ∷ rest) runs =
     AreChosenRuns rest runs
     ⊎ ((others : List Attempt) × (runs ≡ FailsToStart loaded true ∷ others)
     × AreChosenRuns rest others)
-
--- The runs of these starts.
-abbrev pub runs_in : List Attempt → List NodeRun
-runs_in [] = []
-runs_in (Starts run ∷ rest) = run ∷ runs_in rest
-runs_in (FailsToStart loaded is_changed ∷ rest) = runs_in rest
 
 -- All that is seen of starts is the same: what their runs did, and the nodes after it; what was
 -- sent, typed and released, in order.

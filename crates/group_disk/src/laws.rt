@@ -1,5 +1,5 @@
 //! Laws of processes over disks.
-ghost use Rattle.std.specs.Prelude.{ℕ, Bool, [], ◌∷◌, ◌++◌, Err, List, Option, Result};
+ghost use Rattle.std.specs.Prelude.{◌≡◌, ℕ, Bool, [], ◌∷◌, ◌++◌, Err, length, List, Option, Result, Some, take};
 ghost use Rattle.pcode_file.specs.Parts.{Parts};
 ghost use Rattle.paxos_msg.specs.declared.message.Group.{Group};
 ghost use Rattle.paxos_msg.specs.Batches.{Record};
@@ -23,9 +23,12 @@ ghost use Rattle.paxos_msg.specs.Records.{empty_record};
 ghost use Rattle.group_process.specs.Runs.{AreRuns, Attempt, ConsolesAreReleased, ConsolesShowRuns, IsOver, Starts};
 ghost use Rattle.group_disk.specs.Folders.{AreOverDisk, DiskStart, IsFolderLog, IsOverDisk, LeavesNoMoreThan, start_over, starts_of};
 ghost use Rattle.group_disk.specs.Headline.{AlwaysLaterOfDisks, AlwaysOfDiskNodes, AlwaysOfDisks, AreSeenAlike, AreUpAsRun, DisksLeaveNodes, HasFirstStarts, IsAfterDisks};
+ghost use Rattle.group_process.specs.Terminals.{TerminalsAreConsoles, TerminalsShowConsoles, TerminalsShowLastRuns};
+ghost use Rattle.group_disk.specs.Written.{IsWrittenAt};
 ghost use Rattle.group_disk.specs.Restarts.{AreChosenRuns, AreRestarts, AreSeenSame, HasKeptLog, HaveRuns, IsDiskLog};
 
-use group_process::laws::runs_headline;
+use group_process::laws::{runs_headline, terminals_are_consoles};
+use paxos_acceptor::Store;
 use paxos_disk::Disk;
 use pcode_machine::laws::prefixes_are_ordered;
 
@@ -95,12 +98,16 @@ pub fn disks_headline()
     ensures shows_released { AlwaysOfDisks ConsolesShowReleased }
     ensures shows_runs { AlwaysOfDiskNodes ConsolesShowRuns }
     ensures only_released { AlwaysOfDiskNodes ConsolesAreReleased }
+    ensures terminals_show { AlwaysOfDiskNodes TerminalsShowConsoles }
+    ensures terminals_show_last { AlwaysOfDiskNodes TerminalsShowLastRuns }
+    ensures terminals_are_whole { AlwaysOfDiskNodes TerminalsAreConsoles }
     ensures learned_stays { AlwaysLaterOfDisks LearnedStays }
     ensures consoles_grow { AlwaysLaterOfDisks ConsolesGrow }
 {
     disk_logs_are_kept();
     fronts_of_disks();
     runs_headline();
+    terminals_are_consoles();
     prefixes_are_ordered();
 }
 
@@ -134,4 +141,16 @@ pub fn runs_are_starts<D: Disk>()
         (refused : StartRefused (LogState D)) (rest : List DiskStart) → D.honest
         → HasStarted (disk_kind D.honest D.folder) me p store (Err refused)
         → LeavesNoMoreThan p me (D.folder store.disk) (D.folder refused.store.disk) rest }
+{}
+
+/// What a run of a node writes, to a writer that is told to begin at the number of the bytes that
+/// are there, is what it shows at the terminal that this writer is. A start that is refused writes
+/// nothing (`RunsOrRefuses`). So the runs of a node, over one writer, are at one terminal
+/// (`AreAtTerminal`), which is its console (`disks_headline`).
+pub fn runs_write<S: Store>()
+    ensures { (p : Parts) (me : Me) (store end : S) (plan : RunPlan) (from to : Around)
+        (shown : List ℕ) (kept : ℕ) (after : Option (List ℕ))
+        (result : Result (Unit {0}) GroupFault)
+        (h : RunsNode S.kind me p store end plan from to (Some (take kept shown)) after result)
+        → plan.seen ≡ length (take kept shown) → IsWrittenAt shown kept h.last after result }
 {}

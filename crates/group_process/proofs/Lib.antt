@@ -3,5 +3,6 @@ mod RunHistories
 mod GroupLogs
 pub mod RunFronts
 mod RunsShow
+mod TerminalsShow
 mod RunsMayHear
 mod NetworksCarry

@@ -95,7 +95,7 @@ own_history p group log now i m h at =
     rw (sym (first_at group.size i one there)) at (h.nodes i one m there at)
 
 -- a list that is no longer than one that it begins with is that one
-no_more : (xs ys : List ℕ) → IsPrefix xs ys → length ys ≤ length xs → ys ≡ xs
+pub no_more : (xs ys : List ℕ) → IsPrefix xs ys → length ys ≤ length xs → ys ≡ xs
 no_more xs ys h few =
     let none = nil_from_length h.rest (omega (arith, few, ap length h.whole, length-append xs h.rest)) in
     h.whole ∙ rw none (append-nil xs)

@@ -242,9 +242,19 @@ AlwaysLaterOfRuns P =
     → IsAfterRuns p group runs (log ++ more) now
     → P (state_after p group log mid) (state_after p group (log ++ more) now)
 
--- What a run has released by its end: the first bytes of what its machine has written.
+-- The runs of these starts.
+abbrev pub runs_in : List Attempt → List NodeRun
+runs_in [] = []
+runs_in (Starts run ∷ rest) = run ∷ runs_in rest
+runs_in (FailsToStart loaded is_changed ∷ rest) = runs_in rest
+
+-- What a node has released: the first bytes of what its machine has written.
+abbrev pub output_of : Running → List ℕ
+output_of n = released_of (input n.known) n.progress
+
+-- What a run has released by its end.
 abbrev pub run_output : NodeRun → List ℕ
-run_output run = released_of (input run.last.known) run.last.progress
+run_output run = output_of run.last
 
 -- The console of each node begins with what each of its runs has released, whether that run goes on
 -- or is over.

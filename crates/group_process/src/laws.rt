@@ -1,6 +1,7 @@
 //! Laws of processes, as facts about the definitions alone.
-ghost use Rattle.std.specs.Prelude.{◌≡◌, ℕ, ◌++◌, Contains, List, None, map};
+ghost use Rattle.std.specs.Prelude.{◌≡◌, ◌+◌, ◌≤◌, ℕ, [], ◌∷◌, ◌++◌, Contains, drop, length, List, None, map, take};
 ghost use Rattle.pcode_file.specs.Parts.{Parts};
+ghost use Rattle.pcode_machine.specs.Runs.{IsPrefix};
 ghost use Rattle.paxos_msg.specs.declared.message.Group.{Group};
 ghost use Rattle.paxos_msg.specs.Batches.{Msg};
 ghost use Rattle.paxos_msg.specs.Fits.{IsGroup};
@@ -15,6 +16,7 @@ ghost use Rattle.group_rules.specs.Claims.{ConsolesAgree, ConsolesGrow, Consoles
 ghost use Rattle.group_world.specs.Processes.{Entry};
 ghost use Rattle.group_process.specs.Network.{IsNetworkLog, MayHear, GivenEntry, entries_alone};
 ghost use Rattle.group_process.specs.Runs.{AlwaysLaterOfRuns, AlwaysOfNodes, AlwaysOfRuns, AreHistory, AreRuns, Attempt, ConsolesAreReleased, ConsolesShowRuns, HasRuns, IsAfterRuns, IsGroupLog, LeaveNodes};
+ghost use Rattle.group_process.specs.Terminals.{TerminalRun, TerminalsAreConsoles, TerminalsShowConsoles, TerminalsShowLastRuns, WriteInTurn, terminal_after};
 
 use group_world::laws::{fronts_of_logs, logs_have_one_end, processes_headline, processes_show};
 use paxos_msg::grammar::{spelling_is_read, spelling_is_short};
@@ -79,6 +81,34 @@ pub fn runs_may_hear()
     networks_carry();
 }
 
+/// What the runs of a node wrote, one after the other at its terminal, is its console. Each run is
+/// told in `--seen` how many bytes are there. Premises: the console begins with what each run has
+/// released, and is what one of them has released, or nothing.
+///
+/// - The terminal shows the front of the console, whatever was lost.
+/// - What the last run has released is there once that run has written all that it had to.
+/// - If nothing was lost, the terminal is the console.
+pub fn terminals_are_consoles()
+    ensures shows { (starts : ℕ → List Attempt) (now : List Member)
+        → ConsolesShowRuns starts now → TerminalsShowConsoles starts now }
+    ensures last { (starts : ℕ → List Attempt) (now : List Member)
+        → ConsolesShowRuns starts now → TerminalsShowLastRuns starts now }
+    ensures whole { (starts : ℕ → List Attempt) (now : List Member) → ConsolesShowRuns starts now
+        → ConsolesAreReleased starts now → TerminalsAreConsoles starts now }
+{}
+
+/// What a run writes at a terminal that shows `shown`, the front of what the run has released, if
+/// it is told another number than that of these bytes. After a smaller number the bytes from there
+/// on are there twice. After one that is greater by `n`, the next `n` bytes are left out.
+pub fn wrong_seen()
+    ensures repeats { (shown released : List ℕ) (seen : ℕ) → IsPrefix shown released
+        → seen ≤ length shown → shown ++ drop seen released
+        ≡ shown ++ (drop seen shown ++ drop (length shown) released) }
+    ensures leaves_out { (shown released : List ℕ) (n : ℕ) → IsPrefix shown released
+        → released ≡ shown ++ (take n (drop (length shown) released)
+        ++ drop (length shown + n) released) }
+{}
+
 /// The main theorem for processes on wires. It is about every program, every group of 1, 3, 5, 7 or
 /// 9 nodes, and every log of the runs of their processes in one order of time, over stores that
 /// keep their records and a network that carries what was sent.
@@ -89,6 +119,7 @@ pub fn runs_may_hear()
 /// each two moments.
 /// - The console of a node begins with what each of its runs has released, also when the run is
 /// over, and it is what one of them has released, or nothing: the longest of these.
+/// - What the runs of a node wrote at its terminal is its console (`terminals_are_consoles`).
 pub fn runs_headline()
     ensures nodes { (p : Parts) (group : Group) (runs : ℕ → List Attempt) (log : List Entry)
         → IsGroupLog p group runs log → LeaveNodes p group runs log }
@@ -104,6 +135,9 @@ pub fn runs_headline()
     ensures shows_released { AlwaysOfRuns ConsolesShowReleased }
     ensures shows_runs { AlwaysOfNodes ConsolesShowRuns }
     ensures only_released { AlwaysOfNodes ConsolesAreReleased }
+    ensures terminals_show { AlwaysOfNodes TerminalsShowConsoles }
+    ensures terminals_show_last { AlwaysOfNodes TerminalsShowLastRuns }
+    ensures terminals_are_whole { AlwaysOfNodes TerminalsAreConsoles }
     ensures learned_stays { AlwaysLaterOfRuns LearnedStays }
     ensures consoles_grow { AlwaysLaterOfRuns ConsolesGrow }
 {
@@ -113,5 +147,6 @@ pub fn runs_headline()
     processes_show();
     fronts_of_logs();
     logs_have_one_end();
+    terminals_are_consoles();
     prefixes_are_ordered();
 }

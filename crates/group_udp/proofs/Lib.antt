@@ -1,2 +1,3 @@
 mod Senders
 mod Kept
+mod Typing

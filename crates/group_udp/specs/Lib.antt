@@ -5,3 +5,4 @@ pub mod OwnDatagrams
 pub mod Pace
 pub mod Rests
 pub mod Kinds
+pub mod TypedQueue

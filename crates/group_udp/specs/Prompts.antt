@@ -1,5 +1,5 @@
 -- What a keyboard gives a node to do, and what it has left.
-use Rattle.std.specs.Prelude.{◌+◌, ℕ, Bool, true, false, List, [], ◌∷◌, ◌++◌, filter, flat_map, length, Option, option_map}
+use Rattle.std.specs.Prelude.{◌≡◌, ◌+◌, ℕ, Bool, true, false, List, [], ◌∷◌, ◌++◌, filter, flat_map, length}
 use Rattle.group_node.specs.Deeds.{Campaign, Deed, Press}
 
 -- The byte that is typed by a prompt, if it types one.
@@ -20,11 +20,22 @@ is_campaign _ = false
 abbrev pub campaigns_in : List Deed → ℕ
 campaigns_in prompts = length (filter is_campaign prompts)
 
--- What a keyboard has left: its bytes in order, and how many requests to campaign. A request may
--- be given before bytes that came earlier.
+-- What a keyboard has left of what came to it: bytes in order, and how many requests to campaign. A
+-- request may be given before bytes that came earlier.
 pub record Remaining : Type 0 where
   pub bytes : List ℕ
   pub requests : ℕ
+
+-- Nothing.
+abbrev pub no_more : Remaining
+no_more = record { bytes = []; requests = 0 }
+
+-- What a keyboard has left once more has come to it.
+abbrev pub with_more : Remaining → Remaining → Remaining
+with_more came left = record {
+  bytes = left.bytes ++ came.bytes;
+  requests = left.requests + came.requests;
+}
 
 -- What a keyboard had left before it gave these prompts, by what it has left after them.
 abbrev pub before_gift : List Deed → Remaining → Remaining
@@ -33,7 +44,23 @@ before_gift gift left = record {
   requests = campaigns_in gift + left.requests;
 }
 
--- What a keyboard had left before it gave the prompts `gift`, by what it has left now.
--- Allows: a keyboard of which that is unknown.
-abbrev pub with_gift : List Deed → Option Remaining → Option Remaining
-with_gift gift left = option_map (λ l. before_gift gift l) left
+-- A keyboard: what it has left, and whether it is closed. To a closed one nothing comes any more.
+pub record Keys : Type 0 where
+  pub left : Remaining
+  pub is_closed : Bool
+
+-- A keyboard that has given these prompts, and to which nothing has come meanwhile.
+-- Forbids: a byte or a request that is given twice, or left out.
+pub record HasGiven (old : Keys) (gift : List Deed) (new : Keys) : Type 0 where
+  pub whole : old.left ≡ before_gift gift new.left
+  pub stays : new.is_closed ≡ old.is_closed
+
+-- A keyboard that has given these prompts, of what it had left and what has come meanwhile.
+-- Allows: anything that comes to one that is not closed.
+-- Forbids: a byte or a request that is given and did not come; one that came and is neither given
+-- nor left.
+pub record Gives (old : Keys) (gift : List Deed) (new : Keys) : Type 0 where
+  pub came : Remaining
+  pub whole : with_more came old.left ≡ before_gift gift new.left
+  pub none_came : old.is_closed ≡ true → came ≡ no_more
+  pub stays : new.is_closed ≡ old.is_closed

@@ -1,46 +1,43 @@
 //! Where the typed bytes of a node come from.
-ghost use Rattle.std.specs.Prelude.{◌≡◌, ◌↔◌, ◌+◌, ◌-◌, ◌<◌, ◌≤◌, [], ◌∷◌, length, min, IfSome, IsTrue, Option, if◌then◌else◌, map, take};
+ghost use Rattle.std.specs.Prelude.{◌≡◌, ◌↔◌, ◌+◌, ◌-◌, ◌<◌, ◌≤◌, [], ◌∷◌, length, min, IsTrue, if◌then◌else◌, map, take};
 ghost use Rattle.group_protocol.specs.declared.limits.TheConstants.{MOST_WAITING};
 ghost use Rattle.group_node.specs.Deeds.{Campaign, Press};
-ghost use Rattle.group_udp.specs.Prompts.{Remaining, with_gift};
+ghost use Rattle.group_udp.specs.Prompts.{Gives, HasGiven, Keys};
 
 use group_protocol::limits::MOST_WAITING;
 
 /// What people do at a node: they type bytes, and ask it to campaign.
 pub trait Keyboard {
-    /// The bytes that it has left, in order, and the number of requests to campaign, where that is
-    /// known.
-    ghost remaining: { Self → Option Remaining };
+    /// What it has left of what came to it: bytes in order, and the number of requests to campaign;
+    /// and whether it is closed, so that nothing comes any more.
+    ghost keys: { Self → Keys };
 
     /// Takes in what has come since the last look.
     fn look(&mut self)
-        ensures same { remaining self.new ≡ remaining self.old };
+        ensures came { Gives (keys self.old) [] (keys self.new) };
 
     /// Returns true if a request to campaign is there.
     fn has_request(&self) -> bool
-        ensures there { IfSome (remaining self.now)
-            (λ left. IsTrue result ↔ (0 < left.requests)) };
+        ensures there { IsTrue result ↔ (0 < (keys self.now).left.requests) };
 
     /// Returns true if bytes are there.
     fn has_bytes(&self) -> bool
-        ensures there { IfSome (remaining self.now)
-            (λ left. IsTrue result ↔ (0 < length left.bytes)) };
+        ensures there { IsTrue result ↔ (0 < length (keys self.now).left.bytes) };
 
     /// Takes a request to campaign, if one is there, also where bytes came before it. Returns true
     /// if one was.
     fn take_request(&mut self) -> bool
-        ensures asked { remaining self.old
-            ≡ with_gift (if result then Campaign ∷ [] else []) (remaining self.new) }
-        ensures taken { IfSome (remaining self.old)
-            (λ left. 0 < left.requests → IsTrue result) };
+        ensures asked { HasGiven (keys self.old) (if result then Campaign ∷ [] else [])
+            (keys self.new) }
+        ensures taken { 0 < (keys self.old).left.requests → IsTrue result };
 
     /// Gives as many bytes as there is room for at a node at which `waiting` keys wait, up to 256,
     /// at the front of `buffer`. Returns their number.
     fn give(&mut self, buffer: &mut [u8; MOST_WAITING], waiting: usize) -> usize
         ensures within { result ≤ MOST_WAITING }
         ensures room { waiting ≤ MOST_WAITING → waiting + result ≤ MOST_WAITING }
-        ensures given { remaining self.old
-            ≡ with_gift (map Press (take result buffer.new)) (remaining self.new) }
-        ensures all { IfSome (remaining self.old)
-            (λ left. result ≡ min (length left.bytes) (MOST_WAITING - waiting)) };
+        ensures given { HasGiven (keys self.old) (map Press (take result buffer.new))
+            (keys self.new) }
+        ensures all { result
+            ≡ min (length (keys self.old).left.bytes) (MOST_WAITING - waiting) };
 }

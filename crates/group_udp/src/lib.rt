@@ -24,6 +24,7 @@ mod resting;
 mod sources;
 mod trace;
 mod typed;
+mod typed_queue;
 mod udp;
 
 pub use fault::GroupFault;
@@ -32,4 +33,5 @@ pub use resting::{CountedWire, RestingWire, Waited};
 pub use sources::address_at;
 pub use trace::Trace;
 pub use typed::TypedDatagrams;
+pub use typed_queue::TypedQueue;
 pub use udp::{UdpWire, Watch, bind};

@@ -1,5 +1,5 @@
 -- Calls of a node, one after the other: their deeds, and what it was prompted to do.
-use Rattle.std.proofs.Common.{◌≡◌, ◌≢◌, ◌∙◌, zero-add, ◌⊎◌, inl, inr, Bool, ℕ, ◌+◌, ◌<◌, ◌≤◌, List, [], ◌∷◌, ◌++◌, drop, length, min, take, map, Option, Some, None, option_map, IfSome, Result, Ok, Err, refl, sym, ap, arith, append_assoc, append-nil}
+use Rattle.std.proofs.Common.{◌≡◌, ◌≢◌, ◌∙◌, zero-add, ◌⊎◌, inl, inr, Bool, true, ℕ, ◌+◌, ◌<◌, ◌≤◌, List, [], ◌∷◌, ◌++◌, drop, length, min, take, map, Option, Result, Ok, Err, refl, sym, ap, arith, append_assoc, append-nil}
 use Rattle.std.proofs.Math.Seq.{drop-append_seam, take-append_seam}
 use Rattle.std.proofs.lemmas.Grind.{common_steps, flat_map-append}
 use Rattle.std.proofs.lemmas.List.{drop_all, length-append, take-append-drop}
@@ -14,30 +14,62 @@ use Rattle.group_udp.specs.declared.fault.GroupFault.{GroupFault}
 use Rattle.group_udp.specs.declared.fault.GroupFault.TheVariants as group
 use Rattle.node_run.specs.Going.{Around, CampaignsIf, FailsAt, HasEnded, HasGone, HasGoneOn, HasReason, around, planned}
 use Rattle.group_udp.specs.Refusals.{IsCampaignRefusal}
-use Rattle.group_udp.specs.Prompts.{Remaining, before_gift, byte_in, campaigns_in, bytes_in, with_gift}
+use Rattle.group_udp.specs.Prompts.{Gives, HasGiven, Keys, Remaining, before_gift, byte_in, campaigns_in, bytes_in, no_more, with_more}
 use Rattle.node_run.specs.Answering.{left_once_given}
 use Rattle.node_run.specs.Prompted.{IsPrompted, turns_in}
 
--- ---- what a keyboard has left
+-- ---- what a keyboard gives
 
--- keyboards that have the same left are the same
-same_left : (a b : Remaining) → a.bytes ≡ b.bytes → a.requests ≡ b.requests → a ≡ b
+-- two that are the same
+pub same_left : (a b : Remaining) → a.bytes ≡ b.bytes → a.requests ≡ b.requests → a ≡ b
 same_left a b bytes requests = ap (λ x. record { bytes = x; requests = a.requests }) bytes
     ∙ ap (λ r. record { bytes = b.bytes; requests = r }) requests
 
+-- nothing came
+pub with_none : (left : Remaining) → with_more no_more left ≡ left
+with_none left = same_left _ left (append-nil left.bytes) (omega arith)
+
+-- a keyboard to which nothing came meanwhile
+pub gives_now : {old new : Keys} {gift : List Deed} → HasGiven old gift new → Gives old gift new
+gives_now {old} {new} {gift} h = record {
+  came = no_more;
+  whole = with_none old.left ∙ h.whole;
+  none_came = λ closed. refl;
+  stays = h.stays;
+}
+
 -- a keyboard that has given nothing
-pub gift_none : (left : Option Remaining) → left ≡ with_gift [] left
-gift_none None = refl
-gift_none (Some left) = ap (λ l. Some l) (same_left left (before_gift [] left) refl (omega arith))
+pub gift_none : (keys : Keys) → Gives keys [] keys
+gift_none keys = gives_now (record { whole = same_left keys.left (before_gift [] keys.left) refl (omega arith); stays = refl })
+
+-- what a keyboard has left at which nothing is given
+pub looked : {old new : Keys} (h : Gives old [] new) → new.left ≡ with_more h.came old.left
+looked {old} {new} h = same_left new.left (before_gift [] new.left) refl (omega arith) ∙ sym h.whole
+
+pub not_given : {old new : Keys} → HasGiven old [] new → new.left ≡ old.left
+not_given {old} {new} h = same_left new.left (before_gift [] new.left) refl (omega arith) ∙ sym h.whole
+
+-- what came twice came at once
+came_twice : (a c d : Remaining) → with_more d (with_more c a) ≡ with_more (with_more d c) a
+came_twice a c d = same_left _ _ (append_assoc a.bytes c.bytes d.bytes) (omega arith)
+
+-- what comes to a keyboard comes behind what it gives
+came_behind : (gift : List Deed) (left came : Remaining) → with_more came (before_gift gift left) ≡ before_gift gift (with_more came left)
+came_behind gift left came = same_left _ _ (append_assoc (bytes_in gift) left.bytes came.bytes) (omega arith)
 
 -- two gifts are one
 gift_twice : (g h : List Deed) (left : Remaining) → before_gift g (before_gift h left) ≡ before_gift (g ++ h) left
 gift_twice g h left = grind (arith, append_assoc, flat_map-append byte_in g h, filter-append, length-append)
 
-pub gift_both : {a b : Option Remaining} (g h : List Deed) (c : Option Remaining) → a ≡ with_gift g b → b ≡ with_gift h c
-    → a ≡ with_gift (g ++ h) c
-gift_both g h None first second = first ∙ ap (with_gift g) second
-gift_both g h (Some left) first second = first ∙ ap (with_gift g) second ∙ ap (λ x. Some x) (gift_twice g h left)
+pub gift_both : {a b c : Keys} {g h : List Deed} → Gives a g b → Gives b h c → Gives a (g ++ h) c
+gift_both {a} {b} {c} {g} {h} first second = record {
+  came = with_more second.came first.came;
+  whole = sym (came_twice a.left first.came second.came) ∙ ap (with_more second.came) first.whole ∙ came_behind g b.left second.came
+      ∙ ap (before_gift g) second.whole ∙ gift_twice g h c.left;
+  none_came = λ closed. ap (λ d. with_more d first.came) (second.none_came (first.stays ∙ closed))
+      ∙ ap (with_more no_more) (first.none_came closed);
+  stays = second.stays ∙ first.stays;
+}
 
 -- ---- prompts
 
@@ -63,24 +95,21 @@ pressed (b ∷ bytes) = let (all, no_campaign, no_turn) = pressed bytes in (ap (
 
 -- these bytes are the first of a text, and stand before others
 pub gift_front : (n : ℕ) (all front others back : List ℕ) → length front ≡ n → front ≡ take n all → back ≡ drop n all
-    → Some (record { bytes = all; requests = 0 })
-    ≡ with_gift (map Press (take n (front ++ others))) (Some (record { bytes = back; requests = 0 }))
+    → HasGiven (record { left = record { bytes = all; requests = 0 }; is_closed = true }) (map Press (take n (front ++ others)))
+    (record { left = record { bytes = back; requests = 0 }; is_closed = true })
 gift_front n all front others back long is left =
     let (typed, no_campaign, _) = pressed (take n (front ++ others)) in
     let whole : all ≡ take n (front ++ others) ++ back =
     grind (arith, common_steps, take-append_seam front others, take-append-drop n all, long, is, left) in
-    rw (typed, no_campaign, ← whole)
+    record { whole = rw (typed, no_campaign, ← whole) refl; stays = refl }
 
 -- what is left once all was given for which there was room
-pub left_given : (room n : ℕ) (given : List ℕ) (old new : Option Remaining) → old ≡ with_gift (map Press given) new
-    → length given ≡ n → IfSome old (λ left. n ≡ min (length left.bytes) room) → new ≡ option_map (left_once_given room) old
-left_given room n given None None is long all = refl
-left_given room n given None (Some l) is long all = absurd cc
-left_given room n given (Some left) None is long all = absurd cc
-left_given room n given (Some left) (Some l) is long all =
+pub left_given : (room n : ℕ) (given : List ℕ) (old new : Remaining) → old ≡ before_gift (map Press given) new
+    → length given ≡ n → n ≡ min (length old.bytes) room → new ≡ left_once_given room old
+left_given room n given old new is long all =
     let (typed, no_campaign, _) = pressed given in
-    ap (λ x. Some x) (same_left l (left_once_given room left)
-    (grind (arith, common_steps, typed, drop_all, drop-append_seam given l.bytes)) (grind (arith, no_campaign)))
+    same_left new (left_once_given room old)
+    (grind (arith, common_steps, typed, drop_all, drop-append_seam given new.bytes)) (grind (arith, no_campaign))
 
 -- bytes that are typed, and others that are lost
 pub prompted_lost : {spent : Type 0} (typed lost : List ℕ) → (¬ spent → lost ≡ [])
@@ -115,7 +144,13 @@ module _ {S : Type 0} {kind : StoreKind S} (laws : GoOn kind) where
       → HasGoneOn [] mid new via to u → HasGoneOn first old new from to (t + u)
   gone_then {to = to} h k =
       let acts = laws.more _ _ _ _ _ _ _ _ h.acts k.acts in
-      grind (arith, append_assoc, gift_both h.gift k.gift to.keyboard h.given k.given, acts, prompted_both h.prompted k.prompted)
+      record {
+        gift = h.gift ++ k.gift;
+        prompts = h.prompts ++ k.prompts;
+        given = gift_both h.given k.given;
+        acts = rw append_assoc at acts;
+        prompted = prompted_both h.prompted k.prompted;
+      }
 
   -- and then what a refusal ended
   pub ended_then : {first : List Deed} {old mid new : NodeState S} {from via to : Around} {t u : ℕ} {e : GroupFault}
@@ -123,7 +158,7 @@ module _ {S : Type 0} {kind : StoreKind S} (laws : GoOn kind) where
   ended_then {to = to} h k = record {
     gift = h.gift ++ k.gift;
     prompts = h.prompts ++ k.prompts;
-    given = gift_both h.gift k.gift to.keyboard h.given k.given;
+    given = gift_both h.given k.given;
     fails = λ is. rw append_assoc at (laws.fails _ _ _ _ _ _ _ _ h.acts (k.fails is));
     acts = λ is. rw append_assoc at (laws.more _ _ _ _ _ _ _ _ h.acts (k.acts is));
     prompted = prompted_both h.prompted k.prompted;
@@ -132,26 +167,27 @@ module _ {S : Type 0} {kind : StoreKind S} (laws : GoOn kind) where
 
 -- ---- one call
 
--- these prompts, without the keyboard
-pub gone_unprompted : {S : Type 0} {first : List Deed} {old new : NodeState S} {from to : Option Traffic} {keys left : Option Remaining}
-    → HasActed old new from to first → left ≡ keys → HasGoneOn first old new (around from keys) (around to left) 0
-gone_unprompted {first = first} {left = left} acts same = grind (arith, gift_none left, append-nil first, prompted_none)
+-- these prompts, while nothing was taken from the keyboard
+pub gone_unprompted : {S : Type 0} {first : List Deed} {old new : NodeState S} {from to : Option Traffic} {keys left : Keys}
+    → HasActed old new from to first → Gives keys [] left → HasGoneOn first old new (around from keys) (around to left) 0
+gone_unprompted {first = first} acts looks =
+    record { gift = []; prompts = []; given = looks; acts = rw (append-nil first) acts; prompted = prompted_none }
 
 -- a turn
-pub gone_turn : {S : Type 0} {old new : NodeState S} {from to : Option Traffic} (steps : ℕ) {keys : Option Remaining}
+pub gone_turn : {S : Type 0} {old new : NodeState S} {from to : Option Traffic} (steps : ℕ) {keys : Keys}
     → HasActed old new from to (Run steps ∷ []) → HasGoneOn [] old new (around from keys) (around to keys) 1
 gone_turn steps {keys} acts =
     record { gift = []; prompts = Run steps ∷ []; given = gift_none keys; acts = acts; prompted = prompted refl (omega arith) refl }
 
 -- these prompts without the keyboard, up to a refusal
 ended_unprompted : {S : Type 0} {kind : StoreKind S} {first : List Deed} {old new : NodeState S} {from to : Option Traffic}
-    {keys left : Option Remaining} {e : GroupFault} → left ≡ keys → (e ≡ group.Node Store → Fails kind old new from to first)
+    {keys left : Keys} {e : GroupFault} → Gives keys [] left → (e ≡ group.Node Store → Fails kind old new from to first)
     → (e ≢ group.Node Store → HasActed old new from to first) → HasReason e new.protocol.known
     → HasEnded kind first old new (around from keys) (around to left) 0 e
-ended_unprompted {first = first} {left = left} same fails acts due = record {
+ended_unprompted {first = first} looks fails acts due = record {
   gift = [];
   prompts = [];
-  given = sym same ∙ gift_none left;
+  given = looks;
   fails = λ is. rw (append-nil first) (fails is);
   acts = λ is. rw (append-nil first) (acts is);
   prompted = prompted_none;
@@ -160,8 +196,8 @@ ended_unprompted {first = first} {left = left} same fails acts due = record {
 
 -- a save failed at these prompts
 pub save_ended : {S : Type 0} {kind : StoreKind S} {old new : NodeState S} {from to : Option Traffic}
-    {keys left : Option Remaining} {e : GroupFault} {gift prompts : List Deed} → FailsAt kind old new from to prompts e
-    → keys ≡ with_gift gift left
+    {keys left : Keys} {e : GroupFault} {gift prompts : List Deed} → FailsAt kind old new from to prompts e
+    → Gives keys gift left
     → IsPrompted gift 0 (e ≡ group.Node SerialSpent) prompts → HasEnded kind [] old new (around from keys) (around to left) 0 e
 save_ended {gift = gift} {prompts} h given prompted = grind (arith, gift, prompts)
 
@@ -192,20 +228,20 @@ gone_ended h other due = grind (arith, h.gift, h.prompts)
 -- the cycles after it, by their answer
 pub begun_by : {S : Type 0} {kind : StoreKind S} (laws : GoOn kind) {old mid : NodeState S} {t u : Option Traffic} {first : List Deed}
     (new : NodeState S)
-    (keys : Option Remaining) (to : Around) (turns : ℕ) (result : Result (Unit {0}) GroupFault) → HasActed old mid t u first
+    (keys : Keys) (to : Around) (turns : ℕ) (result : Result (Unit {0}) GroupFault) → HasActed old mid t u first
     → HasGone kind [] mid new (around u keys) to turns result → HasGone kind first old new (around t keys) to turns result
-begun_by laws new keys to turns (Ok x) begun h = rw zero-add at (gone_then laws (gone_unprompted begun refl) h)
+begun_by laws new keys to turns (Ok x) begun h = rw zero-add at (gone_then laws (gone_unprompted begun (gift_none keys)) h)
 begun_by laws new keys to turns (Err e) begun h = inl (elim h [
-  | inl k ↦ (k.0, k.1, rw zero-add at (ended_then laws (gone_unprompted begun refl) k.2))
-  | inr k ↦ (0, omega arith, ended_then laws (gone_unprompted begun refl) k.2)
+  | inl k ↦ (k.0, k.1, rw zero-add at (ended_then laws (gone_unprompted begun (gift_none keys)) k.2))
+  | inr k ↦ (0, omega arith, ended_then laws (gone_unprompted begun (gift_none keys)) k.2)
 ])
 
 -- a campaign of the plan that was refused
-pub campaign_refused : {S : Type 0} {kind : StoreKind S} {old new : NodeState S} {t u : Option Traffic} {keys : Option Remaining}
+pub campaign_refused : {S : Type 0} {kind : StoreKind S} {old new : NodeState S} {t u : Option Traffic} {keys : Keys}
     {asked : Bool} {turns : ℕ} {e : GroupFault} → CampaignsIf kind asked old new t u (Err e) → IsCampaignRefusal e
     → HasGone {T = Unit {0}} kind (planned asked) old new (around t keys) (around u keys) turns (Err e)
-campaign_refused {old = old} {new} {t} {u} {asked = asked} {e = e} (is, fails, acts, due) refusal = elim (is_store e) [
+campaign_refused {old = old} {new} {t} {u} {keys} {asked} {e = e} (is, fails, acts, due) refusal = elim (is_store e) [
   | inl store ↦
-      inl (0, omega arith, ended_unprompted refl (λ s. rw is (fails s)) (λ other. absurd (other store)) due)
-  | inr other ↦ inr (other, refusal, ended_unprompted refl (λ s. absurd (other s)) acts due)
+      inl (0, omega arith, ended_unprompted (gift_none keys) (λ s. rw is (fails s)) (λ other. absurd (other store)) due)
+  | inr other ↦ inr (other, refusal, ended_unprompted (gift_none keys) (λ s. absurd (other s)) acts due)
 ]

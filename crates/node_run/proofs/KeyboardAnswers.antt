@@ -1,22 +1,23 @@
 -- What a keyboard gives, and what is typed of it.
-use Rattle.std.proofs.Common.{◌≡◌, ◌∙◌, inl, inr, ℕ, ◌+◌, ◌≤◌, false, List, [], ◌∷◌, ◌++◌, length, map, Option, Result, Ok, Err, refl, sym, ap, arith, append-nil}
+use Rattle.std.proofs.Common.{◌≡◌, ◌∙◌, inl, inr, ℕ, ◌+◌, ◌<◌, ◌≤◌, nat_lt, true, false, OnOk, List, [], ◌∷◌, ◌++◌, length, map, Option, Result, Ok, Err, refl, sym, ap, subst, arith, append-nil}
+use Rattle.std.proofs.lemmas.Bool.Decides.{nat_tests}
 use Rattle.std.proofs.lemmas.List.{length-append, nil_from_length}
 use Rattle.paxos_acceptor.specs.Stores.{StoreKind}
 use Rattle.group_protocol.specs.declared.fault.NodeFault.{NodeFault}
 use Rattle.group_protocol.specs.declared.fault.NodeFault.TheVariants.{SerialSpent}
 use Rattle.group_node.specs.Deeds.{Campaign, Press}
 use Rattle.group_node.specs.States.{NodeState}
-use Rattle.group_wire.specs.Doings.{ActsTyping}
+use Rattle.group_wire.specs.Doings.{ActsTyping, HasActed}
 use Rattle.group_wire.specs.Presses.{HasPressed}
 use Rattle.group_wire.specs.Traffic.{Traffic}
 use Rattle.group_udp.specs.declared.fault.GroupFault.{GroupFault}
 use Rattle.group_udp.specs.declared.fault.GroupFault.TheVariants as group
 use Rattle.node_run.specs.declared.answering.Answered.{Answered}
 use Rattle.node_run.specs.declared.answering.Answered.TheVariants.{Bytes, Campaigned, CampaignRefused, Ignored}
-use Rattle.node_run.specs.Going.{Around, HasEnded, HasGoneOn, around}
-use Rattle.node_run.specs.Answering.{HasCampaignedAsAsked, HasAnsweredKeyboard, HasTypedGiven}
-use Rattle.group_udp.specs.Prompts.{Remaining, with_gift}
-use Rattle.node_run.proofs.Going.{gift_both, prompted, prompted_lost, prompted_typed, save_ended}
+use Rattle.node_run.specs.Going.{Around, HasEnded, HasGoneOn, HasReason, around}
+use Rattle.node_run.specs.Answering.{HasCampaignedAsAsked, HasAnsweredKeyboard, HasTypedGiven, IsAnsweredBy, left_once_answered, left_once_given, room_of}
+use Rattle.group_udp.specs.Prompts.{Gives, HasGiven, Keys, Remaining, before_gift}
+use Rattle.node_run.proofs.Going.{gift_both, gives_now, looked, not_given, prompted, prompted_lost, prompted_typed, same_left, save_ended}
 
 -- where all of some bytes have room, none is left
 none_left : {S : Type 0} {old new : NodeState S} {before after : List ℕ} → HasPressed old new before after (Ok tt)
@@ -24,18 +25,18 @@ none_left : {S : Type 0} {old new : NodeState S} {before after : List ℕ} → H
 none_left {after = after} h room = grind (arith, length-append, nil_from_length after, h.full, h.bytes, h.known)
 
 -- all that was given is typed
-pub typed_all : {S : Type 0} {old new : NodeState S} {bytes before after : List ℕ} {from : Option Remaining} (to : Option Remaining)
+pub typed_all : {S : Type 0} {old new : NodeState S} {bytes before after : List ℕ} {from : Keys} (to : Keys)
     → HasPressed old new before after (Ok tt) → ActsTyping old new before after → before ≡ bytes
-    → length old.protocol.known.waiting + length bytes ≤ 256 → from ≡ with_gift (map Press bytes) to → HasTypedGiven old new from to (Ok tt)
+    → length old.protocol.known.waiting + length bytes ≤ 256 → HasGiven from (map Press bytes) to → HasTypedGiven old new from to (Ok tt)
 typed_all to h (typed, whole, acts) same room given = let none = none_left h (rw same room) in (typed, grind (arith, append-nil), acts)
 
 -- the first of it are typed
-pub typed_some : {S : Type 0} {old new : NodeState S} {bytes before after : List ℕ} {from : Option Remaining} (to : Option Remaining)
+pub typed_some : {S : Type 0} {old new : NodeState S} {bytes before after : List ℕ} {from : Keys} (to : Keys)
     (e : NodeFault) → HasPressed old new before after (Err e) → ActsTyping old new before after → before ≡ bytes
-    → old.protocol.is_stopped ≡ false → from ≡ with_gift (map Press bytes) to → HasTypedGiven old new from to (Err (group.Node e))
-typed_some {after = after} to e h (typed, whole, acts) same works given =
+    → old.protocol.is_stopped ≡ false → HasGiven from (map Press bytes) to → HasTypedGiven old new from to (Err (group.Node e))
+typed_some {after = after} {from} to e h (typed, whole, acts) same works given =
     let spent : e ≡ SerialSpent = grind (arith, h.others, h.stopped) in
-    let all = given ∙ ap (λ bs. with_gift (map Press bs) to) (sym same ∙ whole) in
+    let all = subst (λ bs. HasGiven from (map Press bs) to) (sym same ∙ whole) given in
     (typed, after, ap group.Node spent, all, rw spent (h.spent.0 (ap Err spent)).3, acts)
 
 -- ---- what the node did with it
@@ -52,17 +53,18 @@ answered_on kind (CampaignRefused f) (given, refused) =
     record { gift = Campaign ∷ []; prompts = []; given = given; acts = refused.4; prompted = prompted refl (omega arith) refl }
 
 -- typing that spent the serials
-typing_ended : {S : Type 0} {kind : StoreKind S} {old new : NodeState S}
-    (passed : Option Traffic) {from to : Option Remaining} {e : GroupFault}
-    → HasTypedGiven old new from to (Err e) → HasEnded kind [] old new (around passed from) (around passed to) 0 e
-typing_ended passed (typed, lost, spent, given, due, acts) =
+typing_ended : {S : Type 0} {kind : StoreKind S} {old new : NodeState S} (passed : Option Traffic) {from to : Keys} {e : GroupFault}
+    (typed lost : List ℕ) → e ≡ group.Node SerialSpent → Gives from (map Press (typed ++ lost)) to → HasReason e new.protocol.known
+    → ((passed : Option Traffic) → HasActed old new passed passed (map Press typed))
+    → HasEnded kind [] old new (around passed from) (around passed to) 0 e
+typing_ended passed typed lost spent given due acts =
     let same = prompted_lost typed lost (λ not. absurd (not spent)) in
     grind (arith, map Press (typed ++ lost), map Press typed, acts passed, same)
 
 -- a campaign that was asked for, by its answer
 pub asked_answered : (S : Type 0) (kind : StoreKind S) (old new : NodeState S) (from to : Option Traffic)
-    (keys left : Option Remaining) (result : Result Answered GroupFault)
-    → HasCampaignedAsAsked kind old new from to result → keys ≡ with_gift (Campaign ∷ []) left
+    (keys left : Keys) (result : Result Answered GroupFault)
+    → HasCampaignedAsAsked kind old new from to result → Gives keys (Campaign ∷ []) left
     → HasAnsweredKeyboard kind old new (around from keys) (around to left) result
 asked_answered S kind old new from to keys left (Ok Bytes) h given = absurd h
 asked_answered S kind old new from to keys left (Ok Campaigned) h given = (given, h)
@@ -73,12 +75,53 @@ asked_answered S kind old new from to keys left (Err e) (missing, h) given =
 
 -- typing, where no campaign was asked for
 pub bytes_answered : {S : Type 0} (kind : StoreKind S) {old new : NodeState S} (at : Option Traffic)
-    {keys : Option Remaining} (left via : Option Remaining) → HasTypedGiven old new via left (Ok tt) → keys ≡ with_gift [] via
+    {keys : Keys} (left via : Keys) → HasTypedGiven old new via left (Ok tt) → Gives keys [] via
     → HasAnsweredKeyboard kind old new (around at keys) (around at left) (Ok Bytes)
-bytes_answered kind at left via (typed, given, acts) none = (typed, gift_both [] (map Press typed) left none given, acts at)
+bytes_answered kind at left via (typed, given, acts) none = (typed, gift_both none (gives_now given), acts at)
 
 pub bytes_refused : {S : Type 0} (kind : StoreKind S) {old new : NodeState S} (at : Option Traffic)
-    {keys : Option Remaining} (left via : Option Remaining) {e : GroupFault} → HasTypedGiven old new via left (Err e)
-    → keys ≡ with_gift [] via → HasAnsweredKeyboard kind old new (around at keys) (around at left) (Err e)
+    {keys : Keys} (left via : Keys) {e : GroupFault} → HasTypedGiven old new via left (Err e)
+    → Gives keys [] via → HasAnsweredKeyboard kind old new (around at keys) (around at left) (Err e)
 bytes_refused kind at left via (typed, lost, spent, given, due, acts) none =
-    (inr spent, typing_ended at (typed, lost, spent, gift_both [] (map Press (typed ++ lost)) left none given, due, acts))
+    (inr spent, typing_ended at typed lost spent (gift_both none (gives_now given)) due acts)
+
+-- ---- all that was there is answered
+
+-- a request that was there is given
+request_taken : (room : ℕ) (left : Remaining) → left_once_answered room (before_gift (Campaign ∷ []) left) ≡ left
+request_taken room left =
+    let some : nat_lt 0 (1 + left.requests) ≡ true = grind (arith, nat_tests) in
+    rw some (same_left _ left refl (omega arith))
+
+-- if none is there, bytes are given
+none_taken : (room : ℕ) (left : Remaining) → ¬ (0 < left.requests) → left_once_answered room left ≡ left_once_given room left
+none_taken room left none =
+    let not : nat_lt 0 left.requests ≡ false = grind (arith, nat_tests) in
+    rw not refl
+
+-- a request was there
+pub answered_request : {S : Type 0} (host : NodeState S) {old seen new : Keys} → Gives old [] seen → HasGiven seen (Campaign ∷ []) new
+    → IsAnsweredBy (room_of host) old new
+answered_request host {old} {seen} {new} look given = record {
+  came = look.came;
+  left = sym (request_taken (room_of host) new.left) ∙ ap (left_once_answered (room_of host)) (sym given.whole ∙ looked look);
+  none_came = look.none_came;
+  stays = given.stays ∙ look.stays;
+}
+
+-- none was there
+pub answered_bytes : {S : Type 0} (host : NodeState S) {old seen via new : Keys} → Gives old [] seen → HasGiven seen [] via
+    → ¬ (0 < seen.left.requests) → new.left ≡ left_once_given (room_of host) via.left → new.is_closed ≡ via.is_closed
+    → IsAnsweredBy (room_of host) old new
+answered_bytes host {old} {seen} {via} {new} look given none typed same = record {
+  came = look.came;
+  left = typed ∙ ap (left_once_given (room_of host)) (not_given given)
+      ∙ sym (none_taken (room_of host) seen.left none) ∙ ap (left_once_answered (room_of host)) (looked look);
+  none_came = look.none_came;
+  stays = same ∙ given.stays ∙ look.stays;
+}
+
+-- what holds at each answer
+pub at_ok : {A E : Type 0} (r : Result A E) {P : Type 0} → P → OnOk r P
+at_ok (Ok x) h = h
+at_ok (Err e) h = tt

@@ -5,3 +5,4 @@ mod Releasing
 mod Writing
 mod Running
 mod OverFile
+mod Cycling

@@ -15,7 +15,7 @@ use Rattle.group_wire.specs.Starts.{HasStarted, LacksOutbox}
 use Rattle.group_udp.specs.declared.fault.GroupFault.{GroupFault}
 use Rattle.node_run.specs.declared.cycles.RunPlan.{RunPlan}
 use Rattle.node_run.specs.Going.{Around}
-use Rattle.node_run.specs.Runs.{RunsNode, RunsOrRefuses}
+use Rattle.node_run.specs.Runs.{CyclesOrRefuses, RunsNode, RunsOrRefuses}
 
 module _ {D : Type 0} (folder_of : D → Folder) (me : Me) (program : Parts) where
   -- what is known of the file of a refused start
@@ -104,8 +104,8 @@ module _ {D : Type 0} (folder_of : D → Folder) (me : Me) (program : Parts) whe
 
   pub over_file : {store end : LogState D} {plan : RunPlan} {from to : Around} {before after : Option (List ℕ)}
       {result : Result (Unit {0}) GroupFault}
-      → RunsOrRefuses (disk_kind ⊥ folder_of) me program store end plan from to before after result
+      → CyclesOrRefuses (disk_kind ⊥ folder_of) me program store end plan from to before after result
       → RunsOrRefuses file_kind me program store.filed end.filed plan from to before after result
   over_file {store} (inl (refused, starts, end, passed, written, is)) =
       inl (filed refused, start_refused store refused starts, ap (λ (s : LogState D). s.filed) end, passed, written, is)
-  over_file (inr h) = inr (node_ran h)
+  over_file (inr (h, cycles)) = inr (node_ran h)

@@ -15,7 +15,7 @@ use Rattle.group_udp.specs.declared.fault.GroupFault.TheVariants as group
 use Rattle.node_run.specs.declared.answering.Answered.{Answered}
 use Rattle.node_run.specs.declared.answering.Answered.TheVariants.{Bytes, Campaigned, CampaignRefused, Ignored}
 use Rattle.node_run.specs.Going.{Around, FailsAt, HasEnded, HasReason}
-use Rattle.group_udp.specs.Prompts.{Remaining, with_gift}
+use Rattle.group_udp.specs.Prompts.{Gives, HasGiven, Keys, Remaining, no_more, with_more}
 use Rattle.group_udp.specs.Refusals.{IsCycleRefusal}
 
 -- A node that leads without a gap: each vote of its record is at a place below its known front.
@@ -24,14 +24,14 @@ LeadsWithoutGap n = (is_leading n.proposer ≡ true) × All (λ v. v.place < fro
 
 -- Typing of the bytes that a keyboard gave. If the serials are spent, the last of them are lost.
 -- Forbids: a byte that is typed twice, or that the keyboard did not give.
-abbrev pub HasTypedGiven : {S : Type 0} → NodeState S → NodeState S → Option Remaining
-    → Option Remaining → Result (Unit {0}) GroupFault → Type 0
+abbrev pub HasTypedGiven : {S : Type 0} → NodeState S → NodeState S → Keys → Keys
+    → Result (Unit {0}) GroupFault → Type 0
 HasTypedGiven old new from to (Ok x) =
-    (typed : List ℕ) × (from ≡ with_gift (map Press typed) to)
+    (typed : List ℕ) × HasGiven from (map Press typed) to
     × ((passed : Option Traffic) → HasActed old new passed passed (map Press typed))
 HasTypedGiven old new from to (Err e) =
     (typed lost : List ℕ) × (e ≡ group.Node SerialSpent)
-    × (from ≡ with_gift (map Press (typed ++ lost)) to) × HasReason e new.protocol.known
+    × HasGiven from (map Press (typed ++ lost)) to × HasReason e new.protocol.known
     × ((passed : Option Traffic) → HasActed old new passed passed (map Press typed))
 
 -- What a keyboard has left that gave as many bytes as there was room for.
@@ -45,6 +45,15 @@ abbrev pub left_once_answered : ℕ → Remaining → Remaining
 left_once_answered room left =
     if nat_lt 0 left.requests then record left { requests = left.requests - 1 }
     else left_once_given room left
+
+-- A keyboard that was looked at, and then answered by a node with this room for keys: by a request
+-- that is there, or else by all bytes for which there is room.
+-- Forbids: a request or a byte that is passed over, though it has come.
+pub record IsAnsweredBy (room : ℕ) (old new : Keys) : Type 0 where
+  pub came : Remaining
+  pub left : new.left ≡ left_once_answered room (with_more came old.left)
+  pub none_came : old.is_closed ≡ true → came ≡ no_more
+  pub stays : new.is_closed ≡ old.is_closed
 
 -- How many keys a node has room for.
 abbrev pub room_of : {S : Type 0} → NodeState S → ℕ
@@ -75,10 +84,10 @@ HasCampaignedAsAsked kind old new from to (Err e) =
 abbrev pub HasAnsweredKeyboard : {S : Type 0} → StoreKind S → NodeState S → NodeState S
     → Around → Around → Result Answered GroupFault → Type 0
 HasAnsweredKeyboard kind old new from to (Ok Bytes) =
-    (typed : List ℕ) × (from.keyboard ≡ with_gift (map Press typed) to.keyboard)
+    (typed : List ℕ) × Gives from.keyboard (map Press typed) to.keyboard
     × HasActed old new from.traffic to.traffic (map Press typed)
 HasAnsweredKeyboard kind old new from to (Ok answer) =
-    (from.keyboard ≡ with_gift (Campaign ∷ []) to.keyboard)
+    Gives from.keyboard (Campaign ∷ []) to.keyboard
     × HasCampaignedAsAsked kind old new from.traffic to.traffic (Ok answer)
 HasAnsweredKeyboard kind old new from to (Err e) =
     IsCycleRefusal e × HasEnded kind [] old new from to 0 e

@@ -1,6 +1,6 @@
 -- How a run of a node over the files and sockets of the system ends: its refusals in their order,
 -- or the run.
-use Rattle.std.specs.Prelude.{◌≡◌, ◌≢◌, ◌⊎◌, ◌<◌, ℕ, List, [], Option, Some, None, Result, Err}
+use Rattle.std.specs.Prelude.{◌≡◌, ◌≢◌, ◌⊎◌, ◌<◌, ℕ, true, false, List, [], Option, Some, None, Result, Err}
 use Rattle.std.specs.declared.net.socket_addr.SocketAddr.{SocketAddr}
 use Rattle.paxos_acceptor.specs.declared.me.Me.{Me}
 use Rattle.paxos_disk.specs.Files.{FileKnowledge, file_kind}
@@ -16,7 +16,7 @@ use Rattle.group_udp.specs.declared.fault.GroupFault.{GroupFault}
 use Rattle.group_udp.specs.declared.fault.GroupFault.TheVariants as group
 use Rattle.node_run.specs.declared.node.NodePlan.{NodePlan}
 use Rattle.node_run.specs.Going.{around}
-use Rattle.group_udp.specs.Prompts.{Remaining}
+use Rattle.group_udp.specs.Prompts.{Keys, no_more}
 use Rattle.group_udp.specs.Refusals.{IsOpenRefusal, no_memory}
 use Rattle.node_run.specs.Runs.{RunsOrRefuses}
 
@@ -27,8 +27,8 @@ RefusesUnwritten why before after result =
     (e : GroupFault) × why e × (after ≡ before) × (result ≡ Err e)
 
 -- A run over a store in a file, whose wire is a socket: what passes over it is unknown. `from` and
--- `to` are what the keyboard had left before and after. Or memory is missing.
-abbrev pub RunsOverFile : Me → Parts → NodePlan → Option Remaining → Option Remaining
+-- `to` are the keyboard before and after. Or memory is missing.
+abbrev pub RunsOverFile : Me → Parts → NodePlan → Keys → Keys
     → Option (List ℕ) → Option (List ℕ) → Result (Unit {0}) GroupFault → Type 0
 RunsOverFile me program plan from to before after result =
     RefusesUnwritten (λ e. e ≡ no_memory) before after result
@@ -36,19 +36,20 @@ RunsOverFile me program plan from to before after result =
     × RunsOrRefuses file_kind me program (record { me = me; found = None; faults = 0 }) end
     plan.run (around None from) (around None to) before after result)
 
--- Such a run once its sockets are open, with a keyboard that has this left; or none, since a socket
--- or memory is missing.
-abbrev pub RunsWith : Me → Parts → NodePlan → Option Remaining → Option (List ℕ)
+-- Such a run once its sockets are open, with this keyboard; or none, since a socket or memory is
+-- missing.
+abbrev pub RunsWith : Me → Parts → NodePlan → Keys → Option (List ℕ)
     → Option (List ℕ) → Result (Unit {0}) GroupFault → Type 0
-RunsWith me program plan left before after result =
+RunsWith me program plan keys before after result =
     RefusesUnwritten IsOpenRefusal before after result
-    ⊎ ((to : Option Remaining) × RunsOverFile me program plan left to before after result)
+    ⊎ ((to : Keys) × RunsOverFile me program plan keys to before after result)
 
--- What the keyboard of a plan has left at first: the text, or what datagrams will bring, which is
--- unknown.
-abbrev pub keyboard_at_first : Option SocketAddr → List ℕ → Option Remaining
-keyboard_at_first None text = Some (record { bytes = text; requests = 0 })
-keyboard_at_first (Some address) text = None
+-- The keyboard of a plan at first: it has the text, and nothing more comes; or it has nothing, and
+-- datagrams will bring something.
+abbrev pub keyboard_at_first : Option SocketAddr → List ℕ → Keys
+keyboard_at_first None text =
+    record { left = record { bytes = text; requests = 0 }; is_closed = true }
+keyboard_at_first (Some address) text = record { left = no_more; is_closed = false }
 
 -- Such a run with the keyboard of the plan.
 abbrev pub RunsOpened : Me → Parts → NodePlan → List ℕ → Option (List ℕ) → Option (List ℕ)

@@ -5,3 +5,4 @@ pub mod Prompted
 pub mod Releases
 pub mod Runs
 pub mod Ends
+pub mod Cycles

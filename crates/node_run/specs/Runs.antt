@@ -1,6 +1,6 @@
 -- What a whole run of a node does, what passes over its wire, what is typed at it, and what it
 -- writes.
-use Rattle.std.specs.Prelude.{◌≡◌, ◌≢◌, ◌≤◌, ◌⊎◌, ℕ, true, List, [], ◌++◌, length, Option, Result, Err, IfErr, IsErrAnd, IsErrOf, OnOk}
+use Rattle.std.specs.Prelude.{◌≡◌, ◌≢◌, ◌≤◌, ◌⊎◌, ℕ, true, List, [], ◌++◌, length, Option, Result, Ok, Err, IfErr, IsErrAnd, IsErrOf, OnOk}
 use Rattle.std.specs.Io.KnownBytes.{Appends}
 use Rattle.paxos_acceptor.specs.declared.me.Me.{Me}
 use Rattle.paxos_acceptor.specs.Stores.{StoreKind}
@@ -9,16 +9,17 @@ use Rattle.group_protocol.specs.declared.fault.NodeFault.TheVariants.{SerialSpen
 use Rattle.group_protocol.specs.declared.start.StartRefused.{StartRefused}
 use Rattle.group_node.specs.Deeds.{Deed}
 use Rattle.group_node.specs.Output.{IsReplay}
-use Rattle.group_node.specs.States.{input}
-use Rattle.group_node.specs.NodeCalls.{Running, unreleased_by}
+use Rattle.group_node.specs.States.{NodeState, input}
+use Rattle.group_node.specs.NodeCalls.{Running, running, unreleased_by}
 use Rattle.group_wire.specs.Process.{RunsAsProcess}
 use Rattle.group_wire.specs.Starts.{HasStarted}
 use Rattle.group_udp.specs.declared.fault.GroupFault.{GroupFault}
 use Rattle.group_udp.specs.declared.fault.GroupFault.TheVariants as group
 use Rattle.node_run.specs.declared.cycles.RunPlan.{RunPlan}
+use Rattle.node_run.specs.Cycles.{IsRun, moment}
 use Rattle.node_run.specs.Going.{Around, HasReason, planned}
 use Rattle.node_run.specs.Output.{released_from}
-use Rattle.group_udp.specs.Prompts.{with_gift}
+use Rattle.group_udp.specs.Prompts.{Gives}
 use Rattle.node_run.specs.Prompted.{IsPrompted}
 use Rattle.group_udp.specs.Refusals.{IsCampaignRefusal, IsWrittenCycleRefusal, write_failed}
 
@@ -61,7 +62,7 @@ pub record RunsNode {S : Type 0} (kind : StoreKind S) (me : Me) (program : Parts
   pub begun : (first ≡ planned plan.campaigns) ⊎ ((first ≡ []) × (turns ≡ 0)
       × IsErrAnd result (λ e. (e ≢ group.Node Store) × IsCampaignRefusal e))
   pub gift : List Deed
-  pub given : from.keyboard ≡ with_gift gift to.keyboard
+  pub given : Gives from.keyboard gift to.keyboard
   pub follows : IsPrompted gift turns (IsErrOf result (group.Node SerialSpent)) prompts
   pub few : turns ≤ plan.turns
   pub all : OnOk result (turns ≡ plan.turns)
@@ -70,12 +71,39 @@ pub record RunsNode {S : Type 0} (kind : StoreKind S) (me : Me) (program : Parts
   pub writes : WritesReleased plan.seen last (IsErrOf result write_failed) before after
   pub none_waits : OnOk result (unreleased_by last ≡ [])
 
+-- The same run as its cycles: from the node that one load of the store gave, up to `last`. It says
+-- what the node did in which order: it heard, answered its keyboard, ticked, ran its machine and
+-- released its output in each cycle.
+-- Forbids: a cycle without its turn, its release, or its look at the keyboard.
+pub record RunsInCycles {S : Type 0} (kind : StoreKind S) (me : Me) (program : Parts) (store : S)
+    (plan : RunPlan) (from to : Around) (before after : Option (List ℕ)) (last : Running)
+    (result : Result (Unit {0}) GroupFault) : Type 0 where
+  pub start : NodeState S
+  pub final : NodeState S
+  pub starts : HasStarted kind me program store (Ok start)
+  pub run : IsRun kind plan (moment start from before) (moment final to after) result
+  pub is_last : last ≡ running final
+
+-- A start that is refused: nothing passes, nothing is typed, and nothing is written.
+abbrev pub RefusesToStart : {S : Type 0} → StoreKind S → Me → Parts → S → S → Around → Around
+    → Option (List ℕ) → Option (List ℕ) → Result (Unit {0}) GroupFault → Type 0
+RefusesToStart {S} kind me program store end from to before after result =
+    (refused : StartRefused S) × HasStarted kind me program store (Err refused)
+    × (end ≡ refused.store) × (to ≡ from) × (after ≡ before)
+    × (result ≡ Err (group.Node refused.fault))
+
 -- A run of a node over a store, a wire and a keyboard, and the store `end` after it. Its start is
--- refused; then nothing passes, nothing is typed, and nothing is written. Or it starts, and runs.
+-- refused, or it starts, and runs.
 abbrev pub RunsOrRefuses : {S : Type 0} → StoreKind S → Me → Parts → S → S → RunPlan → Around
     → Around → Option (List ℕ) → Option (List ℕ) → Result (Unit {0}) GroupFault → Type 0
-RunsOrRefuses {S} kind me program store end plan from to before after result =
-    ((refused : StartRefused S) × HasStarted kind me program store (Err refused)
-    × (end ≡ refused.store) × (to ≡ from) × (after ≡ before)
-    × (result ≡ Err (group.Node refused.fault)))
+RunsOrRefuses kind me program store end plan from to before after result =
+    RefusesToStart kind me program store end from to before after result
     ⊎ RunsNode kind me program store end plan from to before after result
+
+-- The same, of a run that is known as its cycles.
+abbrev pub CyclesOrRefuses : {S : Type 0} → StoreKind S → Me → Parts → S → S → RunPlan → Around
+    → Around → Option (List ℕ) → Option (List ℕ) → Result (Unit {0}) GroupFault → Type 0
+CyclesOrRefuses kind me program store end plan from to before after result =
+    RefusesToStart kind me program store end from to before after result
+    ⊎ ((run : RunsNode kind me program store end plan from to before after result)
+    × RunsInCycles kind me program store plan from to before after run.last result)

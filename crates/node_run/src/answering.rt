@@ -1,8 +1,8 @@
 //! What a node does with what its keyboard gives before a turn.
-ghost use Rattle.std.specs.Prelude.{◌≡◌, ◌<◌, ◌↔◌, false, option_map, IsTrue, OnOk};
+ghost use Rattle.std.specs.Prelude.{◌≡◌, ◌<◌, ◌↔◌, false, IsTrue, OnOk};
 ghost use Rattle.group_wire.specs.Turns.{SameReleased};
 ghost use Rattle.node_run.specs.Going.{around_of};
-ghost use Rattle.node_run.specs.Answering.{HasAnsweredKeyboard, HasCampaignedAsAsked, HasTypedGiven, LeadsWithoutGap, left_once_answered, left_once_given, room_of};
+ghost use Rattle.node_run.specs.Answering.{HasAnsweredKeyboard, HasCampaignedAsAsked, HasTypedGiven, IsAnsweredBy, LeadsWithoutGap, left_once_given, room_of};
 
 use crate::endpoints::Endpoints;
 use group_node::{Node, NodeFault};
@@ -41,10 +41,10 @@ fn type_given<T: Wire, K: Keyboard, S: Store>(
 ) -> Result<(), GroupFault>
     requires works { host.old.protocol.is_stopped ≡ false }
     ensures works { host.new.protocol.is_stopped ≡ false }
-    ensures typed { HasTypedGiven host.old host.new (K.remaining endpoints.old.keyboard)
-        (K.remaining endpoints.new.keyboard) result }
-    ensures takes { K.remaining endpoints.new.keyboard
-        ≡ option_map (left_once_given (room_of host.old)) (K.remaining endpoints.old.keyboard) }
+    ensures typed { HasTypedGiven host.old host.new (K.keys endpoints.old.keyboard)
+        (K.keys endpoints.new.keyboard) result }
+    ensures takes { (K.keys endpoints.new.keyboard).left
+        ≡ left_once_given (room_of host.old) (K.keys endpoints.old.keyboard).left }
     ensures passed { T.traffic endpoints.new.wire ≡ T.traffic endpoints.old.wire }
     ensures stays { SameReleased host.old host.new }
     ensures progress { host.new.progress ≡ host.old.progress }
@@ -103,10 +103,10 @@ pub fn answer_keyboard<T: Wire, K: Keyboard, S: Store>(
     requires works { host.old.protocol.is_stopped ≡ false }
     ensures works { OnOk result (host.new.protocol.is_stopped ≡ false) }
     ensures answered { HasAnsweredKeyboard S.kind host.old host.new
-        (around_of T.traffic K.remaining endpoints.old)
-        (around_of T.traffic K.remaining endpoints.new) result }
-    ensures takes { K.remaining endpoints.new.keyboard
-        ≡ option_map (left_once_answered (room_of host.old)) (K.remaining endpoints.old.keyboard) }
+        (around_of T.traffic K.keys endpoints.old)
+        (around_of T.traffic K.keys endpoints.new) result }
+    ensures takes { OnOk result (IsAnsweredBy (room_of host.old) (K.keys endpoints.old.keyboard)
+        (K.keys endpoints.new.keyboard)) }
     ensures stays { SameReleased host.old host.new }
     ensures progress { host.new.progress ≡ host.old.progress }
 {

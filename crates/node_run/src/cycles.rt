@@ -1,8 +1,10 @@
 //! The cycles of one node: each is a rest, typing, a turn, and the release of all output.
-ghost use Rattle.std.specs.Prelude.{◌≡◌, [], false, IfErr, IsErrOf, OnOk};
+ghost use Rattle.std.specs.Prelude.{◌≡◌, ℕ, List, [], false, IfErr, IsErrOf, OnOk, Option};
+ghost use Rattle.paxos_acceptor.specs.Stores.{CountsIf};
 ghost use Rattle.pcode_file.specs.Parts.{Parts};
 ghost use Rattle.group_node.specs.Output.{no_progress};
 ghost use Rattle.group_wire.specs.Turns.{SameReleased};
+ghost use Rattle.node_run.specs.Cycles.{DoesCycle, DoesCycles, IsRun, TurnsOrEnds, moment};
 ghost use Rattle.node_run.specs.Going.{CampaignsIf, HasGone, around_of, planned};
 ghost use Rattle.node_run.specs.Output.{AppendsOutput, NoneWaits, SameProgram};
 ghost use Rattle.node_run.specs.Runs.{IsEarlyEnd};
@@ -76,10 +78,13 @@ fn rest_and_turn<H: Clock, T: CountedWire, K: Keyboard, S: Store, E: Write>(
     requires works { host.old.protocol.is_stopped ≡ false }
     ensures works { OnOk result (host.new.protocol.is_stopped ≡ false) }
     ensures goes { HasGone S.kind [] host.old host.new
-        (around_of T.traffic K.remaining endpoints.old)
-        (around_of T.traffic K.remaining endpoints.new) 1 result }
+        (around_of T.traffic K.keys endpoints.old)
+        (around_of T.traffic K.keys endpoints.new) 1 result }
     ensures program { SameProgram host.old host.new }
     ensures stays { SameReleased host.old host.new }
+    ensures turns { (written : Option (List ℕ)) → TurnsOrEnds S.kind
+        (moment host.old (around_of T.traffic K.keys endpoints.old) written)
+        (moment host.new (around_of T.traffic K.keys endpoints.new) written) result }
     ensures others { IfErr result IsCycleRefusal }
 {
     deeds_go_on::<S>();
@@ -107,12 +112,18 @@ fn cycle<H: Clock, T: CountedWire, K: Keyboard, S: Store, W: ByteWriter, E: Writ
     requires works { host.old.protocol.is_stopped ≡ false }
     ensures works { OnOk result (host.new.protocol.is_stopped ≡ false) }
     ensures goes { HasGone S.kind [] host.old host.new
-        (around_of T.traffic K.remaining endpoints.old)
-        (around_of T.traffic K.remaining endpoints.new) 1 result }
+        (around_of T.traffic K.keys endpoints.old)
+        (around_of T.traffic K.keys endpoints.new) 1 result }
     ensures program { SameProgram host.old host.new }
     ensures writes { AppendsOutput seen host.old host.new (IsErrOf result write_failed)
         (W.contents writer.old) (W.contents writer.new) }
     ensures none_waits { OnOk result (NoneWaits host.new) }
+    ensures cycle { DoesCycle S.kind seen
+        (moment host.old (around_of T.traffic K.keys endpoints.old) (W.contents writer.old))
+        (moment host.new (around_of T.traffic K.keys endpoints.new) (W.contents writer.new))
+        result }
+    ensures faults { CountsIf (IsErrOf result write_failed) (W.write_faults writer.old)
+        (W.write_faults writer.new) }
     ensures others { IfErr result IsWrittenCycleRefusal }
 {
     deeds_go_on::<S>();
@@ -136,12 +147,18 @@ fn play<H: Clock, T: CountedWire, K: Keyboard, S: Store, W: ByteWriter, E: Write
 ) -> Result<(), GroupFault>
     requires works { host.old.protocol.is_stopped ≡ false }
     ensures goes { HasGone S.kind [] host.old host.new
-        (around_of T.traffic K.remaining endpoints.old)
-        (around_of T.traffic K.remaining endpoints.new) plan.turns result }
+        (around_of T.traffic K.keys endpoints.old)
+        (around_of T.traffic K.keys endpoints.new) plan.turns result }
     ensures program { SameProgram host.old host.new }
     ensures writes { AppendsOutput plan.seen host.old host.new (IsErrOf result write_failed)
         (W.contents writer.old) (W.contents writer.new) }
     ensures none_waits { NoneWaits host.old → OnOk result (NoneWaits host.new) }
+    ensures cycles { DoesCycles S.kind plan.seen plan.turns
+        (moment host.old (around_of T.traffic K.keys endpoints.old) (W.contents writer.old))
+        (moment host.new (around_of T.traffic K.keys endpoints.new) (W.contents writer.new))
+        result }
+    ensures faults { CountsIf (IsErrOf result write_failed) (W.write_faults writer.old)
+        (W.write_faults writer.new) }
     ensures others { IfErr result IsWrittenCycleRefusal }
 {
     deeds_go_on::<S>();
@@ -184,13 +201,19 @@ pub fn campaign_and_play<H: Clock, T: CountedWire, K: Keyboard, S: Store, W: Byt
 ) -> Result<(), GroupFault>
     requires works { host.old.protocol.is_stopped ≡ false }
     ensures goes { HasGone S.kind (planned plan.campaigns) host.old host.new
-        (around_of T.traffic K.remaining endpoints.old)
-        (around_of T.traffic K.remaining endpoints.new) plan.turns result }
+        (around_of T.traffic K.keys endpoints.old)
+        (around_of T.traffic K.keys endpoints.new) plan.turns result }
     ensures program { SameProgram host.old host.new }
     ensures writes { AppendsOutput plan.seen host.old host.new (IsErrOf result write_failed)
         (W.contents writer.old) (W.contents writer.new) }
     ensures none_waits { (p : Parts) → host.old.progress ≡ no_progress p
         → OnOk result (NoneWaits host.new) }
+    ensures run { IsRun S.kind plan
+        (moment host.old (around_of T.traffic K.keys endpoints.old) (W.contents writer.old))
+        (moment host.new (around_of T.traffic K.keys endpoints.new) (W.contents writer.new))
+        result }
+    ensures faults { CountsIf (IsErrOf result write_failed) (W.write_faults writer.old)
+        (W.write_faults writer.new) }
     ensures others { IfErr result (IsEarlyEnd plan) }
 {
     deeds_go_on::<S>();

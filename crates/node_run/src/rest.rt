@@ -1,10 +1,14 @@
 //! A node's rest between two turns, and a turn.
-ghost use Rattle.std.specs.Prelude.{◌≡◌, [], ◌∷◌, false, true, Ok, IfErr, IfOk, OnOk};
+ghost use Rattle.std.specs.Prelude.{◌≡◌, [], ◌∷◌, false, true, Err, Ok, IfErr, IfOk, OnOk};
 ghost use Rattle.group_node.specs.Deeds.{Run};
 ghost use Rattle.group_wire.specs.declared.answers.Turned.{Turned};
 ghost use Rattle.group_wire.specs.declared.limits.TheConstants.{TURN_STEPS};
 ghost use Rattle.group_wire.specs.Doings.{HasActed};
 ghost use Rattle.group_wire.specs.Turns.{HasTurned, SameReleased};
+ghost use Rattle.group_protocol.specs.declared.fault.NodeFault.{NodeFault};
+ghost use Rattle.group_udp.specs.declared.fault.GroupFault.TheVariants as group;
+ghost use Rattle.group_udp.specs.Prompts.{Gives};
+ghost use Rattle.node_run.specs.Cycles.{HearsOnce, HearsOut};
 ghost use Rattle.node_run.specs.Going.{FailsAt, HasRested};
 ghost use Rattle.node_run.specs.Output.{SameProgram};
 
@@ -28,7 +32,7 @@ fn is_calling<K: Keyboard>(keyboard: &K, waiting: usize) -> bool {
 /// has taken its time, or the keyboard calls.
 fn wait<T: RestingWire, K: Keyboard>(endpoints: &mut Endpoints<T, K>, waiting: usize) -> bool
     ensures passed { T.traffic endpoints.new.wire ≡ T.traffic endpoints.old.wire }
-    ensures untyped { K.remaining endpoints.new.keyboard ≡ K.remaining endpoints.old.keyboard }
+    ensures looks { Gives (K.keys endpoints.old.keyboard) [] (K.keys endpoints.new.keyboard) }
 {
     match endpoints.wire.wait() {
         Waited::Over => true,
@@ -62,7 +66,9 @@ fn rest_once<T: RestingWire, K: Keyboard, S: Store>(
     ensures works { OnOk result (host.new.protocol.is_stopped ≡ false) }
     ensures rests { HasRested S.kind host.old host.new (T.traffic endpoints.old.wire)
         (T.traffic endpoints.new.wire) result }
-    ensures untyped { K.remaining endpoints.new.keyboard ≡ K.remaining endpoints.old.keyboard }
+    ensures hears { HearsOnce S.kind host.old host.new (T.traffic endpoints.old.wire)
+        (T.traffic endpoints.new.wire) result }
+    ensures looks { Gives (K.keys endpoints.old.keyboard) [] (K.keys endpoints.new.keyboard) }
     ensures stays { SameReleased host.old host.new }
     ensures progress { host.new.progress ≡ host.old.progress }
 {
@@ -88,7 +94,9 @@ fn rest<T: RestingWire, K: Keyboard, S: Store>(
     ensures works { OnOk result (host.new.protocol.is_stopped ≡ false) }
     ensures rests { HasRested S.kind host.old host.new (T.traffic endpoints.old.wire)
         (T.traffic endpoints.new.wire) result }
-    ensures untyped { K.remaining endpoints.new.keyboard ≡ K.remaining endpoints.old.keyboard }
+    ensures hears { HearsOut S.kind host.old host.new (T.traffic endpoints.old.wire)
+        (T.traffic endpoints.new.wire) result }
+    ensures looks { Gives (K.keys endpoints.old.keyboard) [] (K.keys endpoints.new.keyboard) }
     ensures stays { SameReleased host.old host.new }
     ensures progress { host.new.progress ≡ host.old.progress }
 {
@@ -117,7 +125,9 @@ pub fn rest_unless_busy<T: RestingWire, K: Keyboard, S: Store>(
         × (endpoints.new ≡ endpoints.old) }
     ensures rests { HasRested S.kind host.old host.new (T.traffic endpoints.old.wire)
         (T.traffic endpoints.new.wire) result }
-    ensures untyped { K.remaining endpoints.new.keyboard ≡ K.remaining endpoints.old.keyboard }
+    ensures hears { HearsOut S.kind host.old host.new (T.traffic endpoints.old.wire)
+        (T.traffic endpoints.new.wire) result }
+    ensures looks { Gives (K.keys endpoints.old.keyboard) [] (K.keys endpoints.new.keyboard) }
     ensures stays { SameReleased host.old host.new }
     ensures progress { host.new.progress ≡ host.old.progress }
 {
@@ -152,6 +162,9 @@ pub fn own_turn<T: Wire, S: Store>(host: &mut Host<'_, S>, wire: &mut T) -> Resu
         (Run TURN_STEPS ∷ [])) }
     ensures refused { IfErr result
         (FailsAt S.kind host.old host.new (T.traffic wire.old) (T.traffic wire.new) []) }
+    ensures fault { IfErr result (λ e. (f : NodeFault)
+        × HasTurned S.kind host.old host.new (T.traffic wire.old) (T.traffic wire.new) (Err f)
+        × (e ≡ group.Node f)) }
     ensures program { SameProgram host.old host.new }
     ensures stays { SameReleased host.old host.new }
 {

@@ -1,13 +1,15 @@
 //! A whole run of one node: over any store, wire and keyboard, over any disk, and over the files
 //! and sockets of the system.
-ghost use Rattle.std.specs.Prelude.{◌≡◌, ℕ, IfErr, List, None, Option, Some};
+ghost use Rattle.std.specs.Prelude.{◌≡◌, ℕ, true, false, IfErr, IsErrOf, List, None, Option};
+ghost use Rattle.paxos_acceptor.specs.Stores.{CountsIf};
+ghost use Rattle.group_udp.specs.Prompts.{no_more};
 ghost use Rattle.paxos_disk.specs.Disks.{MayFind};
 ghost use Rattle.paxos_disk.specs.Found.{disk_kind};
 ghost use Rattle.paxos_disk.specs.Reads.{IsGood};
 ghost use Rattle.node_run.specs.Ends.{RunsOpened, RunsOverFile, RunsWith};
 ghost use Rattle.node_run.specs.Going.{around_of};
-ghost use Rattle.group_udp.specs.Refusals.{IsRunRefusal};
-ghost use Rattle.node_run.specs.Runs.{RunsOrRefuses};
+ghost use Rattle.group_udp.specs.Refusals.{IsRunRefusal, write_failed};
+ghost use Rattle.node_run.specs.Runs.{CyclesOrRefuses};
 
 use crate::cycles::{RunPlan, campaign_and_play};
 use crate::endpoints::{Endpoints, open_keyboard, open_wire};
@@ -50,7 +52,7 @@ fn tell_end<T: Wire>(wire: &mut T, done: Result<(), GroupFault>) -> Result<(), G
     done
 }
 
-/// Runs one node over a store, a wire and a keyboard, as `plan` says (`RunsOrRefuses`). It starts
+/// Runs one node over a store, a wire and a keyboard, as `plan` says (`CyclesOrRefuses`). It starts
 /// over the record that one load of the store gives, campaigns if it is to, and makes as many
 /// cycles as there are turns. It is a process of its group: exactly what its deeds send and receive
 /// passes over the wire.
@@ -76,10 +78,12 @@ pub fn run_node<H: Clock, T: CountedWire, K: Keyboard, S: Store + Drop, W: ByteW
     writer: &mut W,
     log: &mut Log<'_, H, E>,
 ) -> NodeEnd<S>
-    ensures ends { RunsOrRefuses S.kind config program.now store result.store plan
-        (around_of T.traffic K.remaining endpoints.old)
-        (around_of T.traffic K.remaining endpoints.new)
+    ensures ends { CyclesOrRefuses S.kind config program.now store result.store plan
+        (around_of T.traffic K.keys endpoints.old)
+        (around_of T.traffic K.keys endpoints.new)
         (W.contents writer.old) (W.contents writer.new) result.done }
+    ensures faults { CountsIf (IsErrOf result.done write_failed) (W.write_faults writer.old)
+        (W.write_faults writer.new) }
     ensures others { IfErr result.done IsRunRefusal }
 {
     let group = config.me().group;
@@ -127,11 +131,13 @@ pub fn run_over_disk<
 ) -> NodeEnd<LogStore<D>>
     requires good { D.honest → (left : Option (List ℕ)) → MayFind (D.folder disk) left
         → IsGood config left }
-    ensures ends { RunsOrRefuses (disk_kind D.honest D.folder) config program.now
+    ensures ends { CyclesOrRefuses (disk_kind D.honest D.folder) config program.now
         (record { disk = disk; filed = record { me = config; found = None; faults = 0 } })
-        result.store plan (around_of T.traffic K.remaining endpoints.old)
-        (around_of T.traffic K.remaining endpoints.new)
+        result.store plan (around_of T.traffic K.keys endpoints.old)
+        (around_of T.traffic K.keys endpoints.new)
         (W.contents writer.old) (W.contents writer.new) result.done }
+    ensures faults { CountsIf (IsErrOf result.done write_failed) (W.write_faults writer.old)
+        (W.write_faults writer.new) }
     ensures others { IfErr result.done IsRunRefusal }
 {
     let store = LogStore::new(alloc, disk, config.me());
@@ -154,7 +160,7 @@ fn run_over_file<
     log: &mut Log<'_, H, E>,
 ) -> Result<(), GroupFault>
     ensures ends { RunsOverFile config program.now plan.now
-        (K.remaining endpoints.old.keyboard) (K.remaining endpoints.new.keyboard)
+        (K.keys endpoints.old.keyboard) (K.keys endpoints.new.keyboard)
         (W.contents writer.old) (W.contents writer.new) result }
 {
     let disk = FileDisk::new(*rt, plan.record)?;
@@ -186,7 +192,7 @@ fn run_over_text<
     log: &mut Log<'_, H, E>,
 ) -> Result<(), GroupFault>
     ensures ends { RunsWith config program.now plan.now
-        (Some (record { bytes = text.now; requests = 0 }))
+        (record { left = record { bytes = text.now; requests = 0 }; is_closed = true })
         (W.contents writer.old) (W.contents writer.new) result }
 {
     let watch = Watch::new(rt)?;
@@ -211,7 +217,8 @@ fn run_over_datagrams<
     writer: &mut W,
     log: &mut Log<'_, H, E>,
 ) -> Result<(), GroupFault>
-    ensures ends { RunsWith config program.now plan.now None (W.contents writer.old)
+    ensures ends { RunsWith config program.now plan.now
+        (record { left = no_more; is_closed = false }) (W.contents writer.old)
         (W.contents writer.new) result }
 {
     let watch = Watch::new(rt)?;

@@ -10,11 +10,14 @@ pub struct Text<'a> {
 }
 
 impl Keyboard for Text<'_> {
-    ghost use Rattle.std.specs.Prelude.{Some};
+    ghost use Rattle.std.specs.Prelude.{true};
 
-    ghost remaining = { λ t. Some (record { bytes = t.left.now; requests = 0 }) };
+    // All of it is there, and nothing more comes.
+    ghost keys = { λ t. record {
+      left = record { bytes = t.left.now; requests = 0 };
+      is_closed = true;
+    } };
 
-    // All of it is there.
     fn look(&mut self) {}
 
     // A text asks for no campaign.

@@ -1,10 +1,25 @@
+use Rattle.std.proofs.Common.{ℕ, List}
+use Rattle.group_world.specs.Member.{Member}
+use Rattle.group_process.specs.Runs.{Attempt, ConsolesAreReleased, ConsolesShowRuns}
+use Rattle.group_process.specs.Terminals.{TerminalsAreConsoles, TerminalsShowConsoles, TerminalsShowLastRuns}
+use Rattle.group_disk.specs.Headline.{AlwaysOfDiskNodes}
 use Rattle.group_rules.specs.Claims.{ConsolesAgree, ConsolesGrow, ConsolesHoldOutput, HasNoGap, KeysOnce, LearnedAgree, LearnedChosen, LearnedStays, ConsolesShowReleased, SerialsInOrder}
 use Rattle.group_disk.proofs.DiskClaims.{disks_leave, later_of_disks, of_disks, released_over_disks, seen_alike, shows_over_disks, up_as_run}
 use Rattle.group_disk.proofs.laws.disks_headline.Goals as goal
 
+-- what follows of the consoles and of what was released
+of_seen : goal.After-prefixes_are_ordered → (Q : (ℕ → List Attempt) → List Member → Type 0)
+    → ((starts : ℕ → List Attempt) (now : List Member) → ConsolesShowRuns starts now → ConsolesAreReleased starts now → Q starts now)
+    → AlwaysOfDiskNodes Q
+of_seen c Q follows p group restarts log now size session h =
+    let claims = c.runs_headline.ensures in
+    follows restarts now (shows_over_disks claims.shows_runs p group restarts log now size session h)
+    (released_over_disks claims.only_released p group restarts log now size session h)
+
 pub returns : goal.returns
 returns c =
     let claims = c.runs_headline.ensures in
+    let terminals = c.terminals_are_consoles.ensures in
     record {
       nodes = disks_leave c.disk_logs_are_kept.ensures claims.nodes;
       fronts = c.fronts_of_disks.ensures;
@@ -22,6 +37,9 @@ returns c =
       shows_released = of_disks ConsolesShowReleased claims.shows_released;
       shows_runs = shows_over_disks claims.shows_runs;
       only_released = released_over_disks claims.only_released;
+      terminals_show = of_seen c TerminalsShowConsoles (λ starts now shown only. terminals.shows starts now shown);
+      terminals_show_last = of_seen c TerminalsShowLastRuns (λ starts now shown only. terminals.last starts now shown);
+      terminals_are_whole = of_seen c TerminalsAreConsoles terminals.whole;
       learned_stays = later_of_disks claims.fronts claims.nodes LearnedStays claims.learned_stays;
       consoles_grow = later_of_disks claims.fronts claims.nodes ConsolesGrow claims.consoles_grow;
     }

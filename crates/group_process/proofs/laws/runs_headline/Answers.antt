@@ -1,6 +1,6 @@
 -- What holds of every log of nodes holds of every log of runs.
 use Rattle.std.proofs.lemmas.Grind.{flat_map-append}
-use Rattle.std.proofs.Common.{◌≡◌, List, ◌++◌, subst, arith}
+use Rattle.std.proofs.Common.{◌≡◌, ℕ, List, ◌++◌, subst, arith}
 use Rattle.pcode_file.specs.Parts.{Parts}
 use Rattle.paxos_msg.specs.declared.message.Group.{Group}
 use Rattle.group_rules.specs.Rules.{WorldState}
@@ -9,7 +9,8 @@ use Rattle.group_rules.specs.Claims.{ConsolesAgree, ConsolesGrow, ConsolesHoldOu
 use Rattle.group_world.specs.Member.{Member}
 use Rattle.group_rules.specs.Claims.{ConsolesShowReleased, KeysOnce, SerialsInOrder}
 use Rattle.group_world.specs.Processes.{AlwaysLaterOfProcesses, AlwaysOfProcesses, Entry, after_log}
-use Rattle.group_process.specs.Runs.{AlwaysLaterOfRuns, AlwaysOfRuns, state_after}
+use Rattle.group_process.specs.Runs.{AlwaysLaterOfRuns, AlwaysOfNodes, AlwaysOfRuns, Attempt, ConsolesAreReleased, ConsolesShowRuns, state_after}
+use Rattle.group_process.specs.Terminals.{TerminalsAreConsoles, TerminalsShowConsoles, TerminalsShowLastRuns}
 use Rattle.group_process.proofs.RunsShow.{LogLaws, only_released, runs_show}
 use Rattle.group_process.proofs.laws.runs_headline.Goals as goal
 
@@ -28,12 +29,20 @@ later_of_runs laws P always p group cut runs log more mid now size session first
     subst (P (state_after p group log mid)) (after_parts p group log more mid now)
     (always p group log more mid now size session first.nodes (rw same at moment.after))
 
+-- what follows of the consoles and of what was released
+of_nodes : LogLaws → (Q : (ℕ → List Attempt) → List Member → Type 0)
+    → ((starts : ℕ → List Attempt) (now : List Member) → ConsolesShowRuns starts now → ConsolesAreReleased starts now → Q starts now)
+    → AlwaysOfNodes Q
+of_nodes laws Q follows p group runs log now size session h =
+    follows runs now (runs_show laws p group runs log now size session h) (only_released laws p group runs log now size session h)
+
 laws : goal.After-prefixes_are_ordered → LogLaws
 laws c = grind arith
 
 pub returns : goal.returns
 returns c =
     let claims = c.processes_headline.ensures in
+    let terminals = c.terminals_are_consoles.ensures in
     record {
       nodes = c.processes_make_a_log.ensures.nodes;
       fronts = c.fronts_of_runs.ensures;
@@ -47,6 +56,9 @@ returns c =
       shows_released = of_runs ConsolesShowReleased c.processes_show.ensures.shows;
       shows_runs = runs_show (laws c);
       only_released = only_released (laws c);
+      terminals_show = of_nodes (laws c) TerminalsShowConsoles (λ starts now shown only. terminals.shows starts now shown);
+      terminals_show_last = of_nodes (laws c) TerminalsShowLastRuns (λ starts now shown only. terminals.last starts now shown);
+      terminals_are_whole = of_nodes (laws c) TerminalsAreConsoles terminals.whole;
       learned_stays = later_of_runs (laws c) LearnedStays claims.learned_stays;
       consoles_grow = later_of_runs (laws c) ConsolesGrow claims.consoles_grow;
     }

@@ -20,11 +20,13 @@ returns-clause-typed g c =
 pub returns-in_err-pressed-clause-takes : goal.returns-in_err-pressed-clause-takes
 returns-in_err-pressed-clause-takes g c =
     let same : c.waiting.result ≡ length c.args.host.now.protocol.known.waiting = search rules in
-    left_given _ c.give-count.result _ _ _ c.give-count.ensures.given (grind (arith, common_steps, c.give-count.ensures.within))
+    left_given _ c.give-count.result (take c.give-count.result c.give-count.new.buffer) _ _ c.give-count.ensures.given.whole
+    (grind (arith, common_steps, c.give-count.ensures.within))
     (rw same at c.give-count.ensures.all)
 
 pub returns-clause-takes : goal.returns-clause-takes
 returns-clause-takes g c =
     let same : c.waiting.result ≡ length c.args.host.now.protocol.known.waiting = search rules in
-    left_given _ c.give-count.result _ _ _ c.give-count.ensures.given (grind (arith, common_steps, c.give-count.ensures.within))
+    left_given _ c.give-count.result (take c.give-count.result c.give-count.new.buffer) _ _ c.give-count.ensures.given.whole
+    (grind (arith, common_steps, c.give-count.ensures.within))
     (rw same at c.give-count.ensures.all)

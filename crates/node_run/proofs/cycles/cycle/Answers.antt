@@ -1,6 +1,7 @@
-use Rattle.std.proofs.Common.{inl, refl, arith}
+use Rattle.std.proofs.Common.{inl, inr, refl, arith}
 use Rattle.std.proofs.lemmas.Result.{err_from_is_err_and}
-use Rattle.node_run.proofs.Going.{gone_ended, gone_then, gone_unprompted}
+use Rattle.node_run.specs.Cycles.{moment}
+use Rattle.node_run.proofs.Going.{gift_none, gone_ended, gone_then, gone_unprompted}
 use Rattle.node_run.proofs.Writing.{wrote_all, wrote_but_one, wrote_none}
 use Rattle.node_run.proofs.cycles.cycle.Goals as goal
 
@@ -29,11 +30,32 @@ returns-in_err-release_all-clause-goes g c =
       1,
       omega arith,
       gone_ended (gone_then c.deeds_go_on.ensures c.in_ok-more.ensures.goes
-          (gone_unprompted (rw c.in_err-release_all.ensures.passed (c.in_err-release_all.ensures.acts _)) refl))
+          (gone_unprompted (rw c.in_err-release_all.ensures.passed (c.in_err-release_all.ensures.acts _)) (gift_none _)))
           (λ is. absurd (cc (c.in_err-release_all.ensures.released.1, is))) (rw c.in_err-release_all.ensures.released.1 tt),
     ))
 
 pub returns-clause-goes : goal.returns-clause-goes
 returns-clause-goes g c =
     gone_then c.deeds_go_on.ensures c.in_ok-more.ensures.goes
-    (gone_unprompted (rw c.in_ok-release_all.ensures.passed (c.in_ok-release_all.ensures.acts _)) refl)
+    (gone_unprompted (rw c.in_ok-release_all.ensures.passed (c.in_ok-release_all.ensures.acts _)) (gift_none _))
+
+pub returns-in_err-more-clause-cycle : goal.returns-in_err-more-clause-cycle
+returns-in_err-more-clause-cycle g c =
+    let p = err_from_is_err_and c.from_residual.result c.from_residual.ensures.1 in
+    rw (p.1, p.2) (inl (c.in_err-more.ensures.turns _))
+
+pub returns-in_err-release_all-clause-cycle : goal.returns-in_err-release_all-clause-cycle
+returns-in_err-release_all-clause-cycle g c =
+    let p = err_from_is_err_and c.from_residual-in_err-release_all.result c.from_residual-in_err-release_all.ensures.1 in
+    rw (p.1, p.2) (inr (
+      moment _ _ _,
+      c.in_ok-more.ensures.turns _,
+      record { did = c.in_err-release_all.ensures.released; alone = rw c.in_err-release_all.ensures.passed refl },
+    ))
+
+pub returns-clause-cycle : goal.returns-clause-cycle
+returns-clause-cycle g c = record {
+  mid = moment _ _ _;
+  turns = c.in_ok-more.ensures.turns _;
+  releases = record { did = c.in_ok-release_all.ensures.released; alone = rw c.in_ok-release_all.ensures.passed refl };
+}

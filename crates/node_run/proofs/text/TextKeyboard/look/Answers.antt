@@ -1,0 +1,5 @@
+use Rattle.node_run.proofs.Going.{gift_none}
+use Rattle.node_run.proofs.text.TextKeyboard.look.Goals as goal
+
+pub returns : goal.returns
+returns c = record { came = gift_none _ }
