@@ -1,4 +1,4 @@
-"""Rules of the pages and of the layout: links, LIBRARY's Rust, names of definitions, imports."""
+"""Rules of the pages and of the layout: LIBRARY's Rust, names of definitions, imports."""
 import importlib
 import os
 import re
@@ -6,21 +6,6 @@ import sys
 
 from . import tree
 from .tree import fault, text_of
-
-
-def check_links(path):
-    for text, target in re.findall(r"\[([^\]]*)\]\(([^)\s]+)\)", text_of(path)):
-        if "://" in target or target.startswith("#"):
-            continue
-        file = os.path.normpath(os.path.join(os.path.dirname(path), target.split("#")[0]))
-        if not os.path.exists(f"{tree.TOP}/{file}"):
-            fault(f"{path}: the link to {target} leads nowhere")
-        elif re.fullmatch(r"`\w+`", text) and file.endswith(".case"):
-            if os.path.basename(file) != f"{text.strip('`')}.case":
-                fault(f"{path}: {text} is not the name of {file}")
-        elif re.fullmatch(r"`\w+`", text) and file.endswith((".rt", ".antt")):
-            if not re.search(rf"(?<![\w-]){text.strip('`')}(?![\w-])", text_of(file)):
-                fault(f"{path}: there is no {text} in {file}")
 
 
 # The tests that compile what docs/LIBRARY.md shows, in its order.
