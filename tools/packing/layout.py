@@ -24,7 +24,8 @@ UNITS = ("pgroup@.service", "pgroup-page@.service")
 # The pages and pictures, with all pages that they link to. Their other links, to sources, tests and
 # scripts, lead into the repository alone.
 PAGES = (
-    "README.md", "CHANGELOG.md", "docs/*.md", "docs/pictures/*", "bench/RESULTS.md",
+    "README.md", "CHANGELOG.md", "docs/*.md", "docs/reference/*.md", "docs/pictures/*",
+    "bench/RESULTS.md",
     "tests/cases/README.md",
 )
 # The examples that need nothing else of the repository.
