@@ -47,10 +47,10 @@ def check_nobody(folder):
         for it in play.nodes:
             it.close()
         play.type(b"abc")
-        play.await_said("What is typed waits here")
+        play.await_said("Keys that you type wait here")
         expect("keys wait", play.session.waiting() == 3, play.session.waiting())
         play.nodes[1].bind()
-        play.await_said("What waits is typed now: the session goes on at node 2")
+        play.await_said("The keys that waited are typed now: the session continues at node 2")
         play.await_that(lambda: play.nodes[1].heard() == b"abc", "what waited is typed")
         expect("nobody else has them", [play.nodes[it].got for it in (0, 2)] == [b"", b""])
 
@@ -69,7 +69,7 @@ def check_consoles(folder):
         three.show(b"ght\nmore")
         play.await_that(lambda: play.shown == b"> right\nmore", "the rest is shown, once")
         three.close()
-        play.await_said("the console of node 2 is another one. What is typed waits here")
+        play.await_said("the console of node 2 is another one. Keys that you type wait here")
         play.type(b"x")
         expect("nothing is typed there", play.heard()[1] == b"", play.heard())
 
