@@ -44,7 +44,7 @@ class Attached(Terminal):
 
     def at(self):
         """The number of the node that has the session, by what was said last, or None."""
-        found = re.findall(rb"goes on at node (\d)|typed waits here", self.shown)
+        found = re.findall(rb"continues at node (\d)|you type wait here", self.shown)
         return int(found[-1] or 0) or None if found else 1
 
     def finish(self):

@@ -23,7 +23,7 @@ def check_refused(folder):
         one.close()
         two.close()
         play.type(b"b")
-        play.await_said("goes on at node 3")
+        play.await_said("continues at node 3")
         play.type(b"c")
         expect("each key has come once", play.heard() == [b"", b"", b"bc"] or
                play.heard() == [b"a", b"", b"bc"], play.heard())
@@ -36,7 +36,7 @@ def check_heard(folder):
         expect("the first node has the keys", play.heard() == [b"abc", b"", b""], play.heard())
         play.nodes[0].close()
         play.type(b"d")
-        play.await_said("goes on at node 2")
+        play.await_said("continues at node 2")
         expect("the next one gets what came later", play.heard()[1:] == [b"d", b""], play.heard())
         play.await_said('typed at node 1 may be lost, and its record cannot be read here: "abc".')
 
@@ -65,7 +65,7 @@ def check_consoles(folder):
         three.show(b"ri")
         play.await_that(lambda: play.shown == b"> right\n", "the first console is shown")
         one.close()
-        play.await_said("goes on at node 3")
+        play.await_said("continues at node 3")
         three.show(b"ght\nmore")
         play.await_that(lambda: play.shown == b"> right\nmore", "the rest is shown, once")
         three.close()
@@ -85,7 +85,7 @@ def check_not_kept(folder):
         play.await_that(lambda: play.shown == b"> " + text, "all is shown")
         two.give_back(5000)
         one.close()
-        play.await_said("goes on at node 2")
+        play.await_said("continues at node 2")
         two.show(b"more")
         play.await_that(lambda: play.shown == b"> " + text + b"more", "it goes on there")
         late = Play([two])
@@ -185,7 +185,7 @@ def check_kept(folder):
         play.type(b"ab")
         cut(play.nodes[0].console, 0)
         play.nodes[0].show(b"the console of another program")
-        play.await_said("goes on at node 2")
+        play.await_said("continues at node 2")
         play.await_said('Node 1 still runs, and has 2 keys that were typed there: "ab".')
         for it in play.nodes:
             it.vote(0, (1, 1), (1, 1, 1, b"ab"))
@@ -256,7 +256,7 @@ def check_window(folder):
             it.vote(0, (1, 1), (1, 1, 1, text[:32]))
         play.await_that(lambda: len(play.heard()[0]) == 160, "32 more are typed")
         play.nodes[0].close()
-        play.await_said("goes on at node 2")
+        play.await_said("continues at node 2")
         play.await_that(lambda: len(play.heard()[1]) == 128, "it goes on at the next node")
         expect("in their order", play.nodes[1].got == text[160:288], play.nodes[1].got)
 
