@@ -36,9 +36,9 @@ def due_of(nodes, size, is_nobody):
         return None
     majority = majority_of(nodes, size)
     if majority is False:
-        return {"text": "No majority runs: what is typed waits until one does.", "at": None}
+        return {"text": "No majority runs: keys that you type wait until one does.", "at": None}
     best = best_of(nodes)
-    text = "Nobody leads: what is typed waits."
+    text = "Nobody leads: keys that you type wait."
     if best is None:
         return {"text": text, "at": None}
     return {"text": text, "at": best["at"], "node": best["node"]}
