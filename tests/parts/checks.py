@@ -16,7 +16,7 @@ import tempfile
 import traceback
 import unittest
 
-from .program import Broken, provide
+from .program import Broken, is_help, provide
 
 # The names of the checks that have passed.
 NOTED = []
@@ -165,8 +165,7 @@ def run_checks(name, *checks, place=None):
 def has_no_words(name, more=""):
     """Returns true if the script `name` was called without words, and else says how to call it.
     With --help it prints what the script says of itself, and ends."""
-    if sys.argv[1:] in (["--help"], ["-h"]):
-        print(sys.modules["__main__"].__doc__.strip())
+    if is_help():
         sys.exit(0)
     if len(sys.argv) > 1:
         print(f"usage: {name}{more}", file=sys.stderr)

@@ -37,6 +37,14 @@ def provide(name):
         sys.exit(2)
 
 
+def is_help():
+    """Whether the script was called with --help. What it says of itself is printed then."""
+    is_asked = sys.argv[1:] in (["--help"], ["-h"])
+    if is_asked:
+        print(sys.modules["__main__"].__doc__.strip())
+    return is_asked
+
+
 def end_on_signals():
     """Lets SIGTERM and SIGHUP end the script as an exception does, so that no process is left."""
     for number in (signal.SIGTERM, signal.SIGHUP):

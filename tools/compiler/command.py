@@ -25,7 +25,7 @@ EXAMPLES = """examples:
   compile --asm hello.pas > hello.asm    assembly, which tools/assemble makes the same file of
   compile --line-end cr hello.pas        WRITELN writes 13, as in the p-System, and not 10
   compile --heap 9000 hello.pas          more room for NEW and for files
-  compile --file DATA=data.txt hello.pas the program finds a file DATA in memory
+  compile --file DATA=d.txt hello.pas    the program finds a file DATA in memory
 
 READ takes 10 and 13 as the end of a line. A fault is told as FILE:LINE:COLUMN: what is wrong, on
 standard error, up to ten of them. What a program needs and is not there is told beside these: all

@@ -10,6 +10,7 @@ import os
 import re
 import subprocess
 import sys
+import textwrap
 
 TOP = os.path.join(os.path.dirname(os.path.realpath(__file__)), "..", "..")
 TOOLS = os.path.join(TOP, "tools")
@@ -17,6 +18,14 @@ GROUP = os.path.join(TOOLS, "group")
 # The commands of the program that have a page, beside the one of all.
 COMMANDS = ("check", "list", "run", "show", "sim", "net", "node")
 SCRIPTS = ("attach", "demo", "draw", "lead", "page", "renew", "replay", "status", "supervise")
+# Pages that belong together name each other.
+FAMILIES = (
+    ("", *COMMANDS), ("node", *SCRIPTS),
+    ("run", "console", "compile", "assemble", "translate", "volume", "files"),
+)
+# The columns of a page, by how many its text is indented, and from where on an indented line goes
+# on in the second column of the one before.
+COLUMNS, INDENT, FAR = 80, 7, 20
 
 
 class Caught(Exception):
@@ -29,20 +38,82 @@ def escaped(line):
     return f"\\&{line}" if line[:1] in (".", "'") else line
 
 
+def columns_in(lines):
+    """Pairs of the texts in two columns, or None where these lines have no such columns."""
+    pairs = []
+    for line in lines:
+        found = re.fullmatch(r" {1,4}(\S.*?) {2,}(\S.*)", line)
+        if found:
+            pairs.append((found[1], found[2]))
+        elif pairs and line.startswith(" " * FAR):
+            pairs[-1] = pairs[-1][0], f"{pairs[-1][1]} {line.strip()}"
+        else:
+            return None
+    return pairs
+
+
+def verbatim(lines):
+    """Lines that stay as they are. Those that would be too long are not indented; if that is not
+    enough, two columns become a list, and other lines are parted."""
+    pairs = columns_in(lines) if max(map(len, lines)) >= COLUMNS else None
+    if pairs:
+        return words_in(pairs)
+    lines = [part for it in lines for part in textwrap.wrap(
+        it, COLUMNS - 1, subsequent_indent=" " * 8, break_on_hyphens=False)]
+    is_wide = max(map(len, lines)) + INDENT >= COLUMNS
+    wide, end = ([".in 0"], [".in"]) if is_wide else ([], [])
+    return [".PP", ".nf", *wide, *map(escaped, lines), *end, ".fi"]
+
+
+def listed(lines):
+    """Lines of which those with a hyphen begin an item."""
+    return [part for it in lines for part in (
+        (r".IP \(bu 2", escaped(it[2:])) if it.startswith("- ") else (escaped(it.strip()),))]
+
+
+def is_plain(line):
+    return not line.startswith(" ")
+
+
 def body(lines):
-    """Lines that stay as they are."""
-    return [".nf", *map(escaped, lines), ".fi"]
+    """Lines as roff has them: paragraphs, which are filled, lists, and lines that are indented,
+    which stay as they are."""
+    out, block = [], []
+    for line in [*lines, ""]:
+        is_list = bool(block) and block[0].startswith("- ")
+        if block and (not line or is_plain(line) != is_plain(block[0]) and not is_list):
+            is_filled = is_plain(block[0])
+            paragraph = [".PP", *map(escaped, block)]
+            out += listed(block) if is_list else paragraph if is_filled else verbatim(block)
+            block = []
+        if line:
+            block.append(line)
+    return out
+
+
+def words_in(pairs):
+    """Words with what each is."""
+    return [line for word, text in pairs for line in (".TP", escaped(word), escaped(text))]
+
+
+def see_also(name):
+    """The pages that belong to the one of this name."""
+    short = name[len("pgroup-"):]
+    others = sorted({it for family in FAMILIES if short in family for it in family} - {short})
+    pages = [("pgroup-" + it if it else "pgroup") + "(1)" for it in others]
+    docs = "The pages in /usr/share/doc/pgroup; README.md leads to them."
+    return [", ".join(pages) + ".", "", docs]
 
 
 def page(name, about, sections):
     """The page of a command: its name, what it does in a sentence, and its sections, each with a
     title and its lines."""
-    lines = [f'.TH {name.upper()} 1 "" pgroup "pgroup manual"', ".SH NAME"]
+    lines = [f'.TH {name.upper()} 1 "" pgroup "pgroup manual"', ".nh", ".ad l", ".SH NAME"]
     lines.append(f"{escaped(name)} \\- {escaped(about.rstrip('.'))}")
     for title, text in sorted(sections, key=lambda it: it[0] != "Synopsis"):
-        while text and not text[-1]:
-            text = text[:-1]
-        lines += [f'.SH "{title.upper()}"', *body(text)]
+        is_words = bool(text) and isinstance(text[0], tuple)
+        lines += [f'.SH "{title.upper()}"', *(words_in(text) if is_words else body(text))]
+    lines += ['.SH "SEE ALSO"', *body(see_also(name))]
     return "\n".join(lines) + "\n"
 
 
@@ -113,7 +184,7 @@ def page_of_words(name, parser):
     actions = [it for it in parser._actions if it.dest != "help"]
     usage = [f"pgroup-{name} [OPTIONS] " + " ".join(
         word_of(it) for it in actions if not it.option_strings)]
-    words = [line for it in actions for line in (word_of(it), f"    {it.help}")]
+    words = [(word_of(it), it.help) for it in actions]
     text = [more, ""] if more else []
     text += parser.epilog.strip("\n").split("\n")
     # The text names the script as it is called in the repository.
@@ -150,7 +221,8 @@ def console_page():
     first, _, rest = " ".join(about.split()).partition(": ")
     rest = rest[:1].upper() + rest[1:]
     lines = [rest, "", *more.replace("./console", "pgroup-console").split("\n")]
-    return page("pgroup-console", first, [("Description", lines)])
+    usage = next(it.strip() for it in lines if it.startswith("  pgroup-console "))
+    return page("pgroup-console", first, [("Synopsis", [usage]), ("Description", lines)])
 
 
 def script_pages():

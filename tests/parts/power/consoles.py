@@ -135,6 +135,8 @@ class Consoles:
             faults = [it for it in faults if it]
             if not faults:
                 self.await_end(group)
+            faults += [f"supervisor {it.number} says that consoles contradict each other"
+                       for it in group if " contradicts that of node " in it.said()]
             return faults
         finally:
             for it in group:

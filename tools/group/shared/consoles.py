@@ -2,6 +2,7 @@
 
 import os
 
+from .screens import Screen
 from .terminal import Terminal
 
 # How many bytes before the end of a file it begins with, and how many it takes at once.
@@ -14,9 +15,10 @@ def shown_as(character):
 
 class View:
     """A console that is followed as it grows. Where it is another file, or was cut, it begins
-    anew."""
+    anew. With the name of a screen it has the codes of that old terminal."""
 
-    def __init__(self):
+    def __init__(self, name=None):
+        self.name, self.screen = name, None
         self.terminal, self.of, self.at = None, None, 0
 
     def look(self, path):
@@ -26,9 +28,12 @@ class View:
             if self.of != (path, inode) or size < self.at:
                 self.of, self.at = (path, inode), max(0, size - BEGIN)
                 self.terminal = Terminal(is_pair=True)
+                # The terminal knows itself what begins a line.
+                self.screen = Screen(self.name, is_lf=True) if self.name else None
             file.seek(self.at)
             for data in iter(lambda: file.read(PIECE), b""):
                 self.at += len(data)
+                data = self.screen.translated(data) if self.screen else data
                 self.terminal.write(data.decode("latin-1"))
 
     def lines(self, room):

@@ -78,6 +78,8 @@ def check_apart(words):
     others = [(record, "record"), (os.path.realpath(words.file), "code file"),
               (os.path.realpath(words.program), "program pgroup")]
     others += [(record + end, f"file {record}{end}") for end in (".new", ".lock", ".seen")]
+    if words.beats_key is not None:
+        others.append((os.path.realpath(words.beats_key), "key of --beats-key"))
     for other, what in others:
         is_same = os.path.exists(place) and os.path.exists(other) and os.path.samefile(place, other)
         if place == other or is_same:

@@ -71,10 +71,10 @@ def keep_up(window, group):
             return
 
 
-def follow(records, consoles, logs):
+def follow(records, consoles, logs, screen=None):
     """Keeps one screen up to date, until q or Ctrl-C. Returns why it cannot, or None."""
     try:
-        curses.wrapper(keep_up, Group(records, consoles, logs))
+        curses.wrapper(keep_up, Group(records, consoles, logs, screen))
     except KeyboardInterrupt:
         pass
     except curses.error as fault:

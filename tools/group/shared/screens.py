@@ -31,6 +31,12 @@ CODES = {
 }
 
 
+def add_screen(add):
+    """The option --screen of a script."""
+    add("--screen", metavar="TERMINAL", choices=sorted(CODES),
+        help=f"shows the cursor codes of an old terminal: {', '.join(CODES)}")
+
+
 class Screen:
     """What has come of a code that is not whole waits."""
 

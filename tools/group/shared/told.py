@@ -92,6 +92,13 @@ def told_of(words, line):
     return (why or sentence) + (f". {advice[0].upper()}{advice[1:]}" if advice else "")
 
 
+def told_of_words(words):
+    """What is added where these words are wrong, or None."""
+    if words[0] == "help" and len(words) > 2:
+        return "help takes one word: codes, or a command. `pgroup help` lists the commands"
+    return None
+
+
 def end_with(parent):
     ctypes.CDLL(None).prctl(PR_SET_PDEATHSIG, signal.SIGKILL, 0, 0, 0)
     if os.getppid() != parent:
@@ -121,6 +128,7 @@ def main():
         os.execv(words[0], words)
     status, line = run(words)
     told = told_of(words[1:], line) if status == 1 else None
+    told = told_of_words(words[1:]) if status == 2 else told
     if told:
         print(f"pgroup: {told}", file=sys.stderr)
     if status < 0:

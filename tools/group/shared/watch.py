@@ -139,11 +139,11 @@ def file_of(pid, descriptor):
 class Watched:
     """A node: what was seen of it when `look` was called last."""
 
-    def __init__(self, path, console, log):
+    def __init__(self, path, console, log, screen=None):
         self.path, self.given = path, console
         self.console = console
         self.is_log_given, self.log = log is not None, log and Log(log)
-        self.head, self.view = Whole(path), View()
+        self.head, self.view = Whole(path), View(screen)
         self.record, self.fault, self.pid, self.state = None, None, None, None
         self.end, self.log_fault = None, None
         # By which run it was seen that the record is older than it was, or None.
@@ -211,9 +211,10 @@ class Watched:
 class Group:
     """The nodes whose records are given."""
 
-    def __init__(self, records, consoles, logs):
+    def __init__(self, records, consoles, logs, screen=None):
         none = [None] * len(records)
-        self.nodes = [Watched(*it) for it in zip(records, consoles or none, logs or none)]
+        given = zip(records, consoles or none, logs or none)
+        self.nodes = [Watched(*it, screen) for it in given]
 
     def look(self):
         processes, seen = node_processes(), Seen([it.path for it in self.nodes])

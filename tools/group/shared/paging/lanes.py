@@ -6,7 +6,7 @@ import os
 import re
 import time
 
-from ..ends import Log, with_end
+from ..ends import Log, end_of, with_end
 from ..record import text_of_ballot
 from ..watch import file_of, state_of
 
@@ -17,12 +17,24 @@ MARKS, TEXT, END = 4000, 200, 90
 READ, STILL = 0.5, 1.0
 LINE = re.compile(r"(?:^|\s)(\d+\.\d{3}) (?:supervise )?node (\d) (.*)$")
 # What a log says that the lanes do not show by themselves.
-TOLD = re.compile(r".*(refused|no room|cannot|is asked|ended|older|missing|differs|full)")
+TOLD = re.compile(
+    r".*(refused|no room|cannot|is asked|ended|older|missing|differs|full|contradicts|agrees)"
+)
 SEQUENCE = re.compile(r"\x1b\[[0-9;?]*[@-~]|\x1b.")
 
 
 def now():
     return int(time.time() * 1000)
+
+
+def told_of(text):
+    """What a page tells of a line of a log, or None. That a program has ended is told once: as the
+    node says it, and not as its supervisor says so."""
+    end = end_of(text)
+    if end is not None:
+        return with_end("says that its program has ended", end)
+    is_again = text.startswith("says that the program has ended")
+    return text if TOLD.match(text) and not is_again else None
 
 
 class Lines(Log):
@@ -155,8 +167,9 @@ class Lane:
             return  # It is gone, or is no file.
         while self.log and self.log.lines:
             when, node, text = self.log.lines.popleft()
-            if node == self.number() and when > self.marks.begun and TOLD.match(text):
-                self.marks.add(self.at, "log", text, when)
+            told = told_of(text) if node == self.number() and when > self.marks.begun else None
+            if told:
+                self.marks.add(self.at, "log", told, when)
 
     def lag(self, front):
         """How many bytes its console is behind, once it has not grown for a while."""

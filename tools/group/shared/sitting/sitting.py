@@ -6,6 +6,7 @@ import os
 import select
 import time
 
+from ..screens import Screen
 from ..terminal import Terminal
 from ..watch import refusals_at
 from .session import Session
@@ -23,8 +24,9 @@ KEYS, MOST = 4096, 1 << 16
 
 
 class Sitting:
-    def __init__(self, seats, at, is_lf, is_utf8):
+    def __init__(self, seats, at, is_lf, is_utf8, screen=None):
         self.session = Session(seats, at)
+        self.screen = Screen(screen, is_lf) if screen else None
         self.terminal = Terminal(is_lf=is_lf)
         self.window = Window(self.terminal, is_utf8)
         self.decoder = codecs.getincrementaldecoder("utf-8")("replace")
@@ -72,6 +74,7 @@ class Sitting:
         for _, text in said:
             self.window.say(text)
         data, self.session.output = bytes(self.session.output), bytearray()
+        data = self.screen.translated(data) if self.screen else data
         self.terminal.write(self.decoder.decode(data))
         if now - self.looked > STATUS or said:
             self.tell(now)

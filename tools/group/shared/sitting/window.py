@@ -1,5 +1,5 @@
 """A session on a person's terminal: the console as a terminal of 80 by 24 shows it, and what there
-is to say below it, or over its last line where there is no room. The console's own bytes never
+is to say below it, or over its last lines where there is no room. The console's own bytes never
 reach the person's terminal, which so answers none of them."""
 
 import os
@@ -8,8 +8,11 @@ import time
 
 from ..terminal import BOLD, INVERSE, UNDER
 
-# How long a sentence is shown over the last line, in seconds.
-FRESH = 6.0
+# How long a sentence is shown over the last lines, and how long if others wait for their turn, in
+# seconds; and how many of the last ones get a turn.
+FRESH, BRIEF, TURNS = 6.0, 4.0, 3
+# How many lines it takes there at most.
+LINES = 4
 STYLES = ((BOLD, "1"), (UNDER, "4"), (INVERSE, "7"))
 
 
@@ -18,6 +21,11 @@ def style_of(look):
     bits = ord(look) - 32
     numbers = "".join(f";{number}" for bit, number in STYLES if bits & bit)
     return f"\x1b[0{numbers}m"
+
+
+def wrapped(text, width):
+    """The lines of a sentence. A path in it is parted only if it is too long for a line."""
+    return textwrap.wrap(text, max(1, width - 1), break_on_hyphens=False)
 
 
 def rendered(text, looks, width):
@@ -40,7 +48,9 @@ class Window:
     def __init__(self, terminal, is_utf8):
         self.terminal, self.name = terminal, "utf-8" if is_utf8 else "ascii"
         self.size, self.rows, self.left = None, [], terminal.left
-        self.sentences, self.said_at, self.status = [], -FRESH, ""
+        self.sentences, self.status = [], ""
+        # The sentence whose turn it is over the last lines, by its number, and since when.
+        self.turn, self.since = -1, -FRESH
         self.at = ""
 
     def write(self, text):
@@ -50,7 +60,6 @@ class Window:
 
     def say(self, text):
         self.sentences.append(text)
-        self.said_at = time.monotonic()
 
     def has_room(self):
         """Whether there are lines below the console."""
@@ -59,15 +68,22 @@ class Window:
     def below(self, count, width):
         """What is to be said in so many lines: first the status, and below it the last
         sentences."""
-        lines = [line for it in self.sentences[-count:] for line in textwrap.wrap(it, width - 1)]
+        lines = [line for it in self.sentences[-count:] for line in wrapped(it, width)]
         lines = lines[-(count - 1) :] if count > 1 else []
         return [(self.status, "\x1b[0;7m"), *((it, "\x1b[0m") for it in lines)]
 
+    def fresh(self):
+        """The sentence that is to be read now, or nothing: one has its turn after the other."""
+        now, last = time.monotonic(), len(self.sentences) - 1
+        if self.turn < last and now - self.since >= BRIEF:
+            self.turn, self.since = max(self.turn + 1, last + 1 - TURNS), now
+        is_over = self.turn < 0 or self.turn == last and now - self.since >= FRESH
+        return "" if is_over else self.sentences[self.turn]
+
     def over(self, width):
-        """What is to be said over the last line, or None: a new sentence, or what waits."""
-        is_fresh = time.monotonic() - self.said_at < FRESH
-        text = self.sentences[-1] if is_fresh and self.sentences else self.status
-        return (text[: width - 1], "\x1b[0;7m") if text else None
+        """What is to be said over the last lines: a sentence, and what waits."""
+        lines = wrapped(self.fresh(), width)[:LINES]
+        return [(it, "\x1b[0;7m") for it in (*lines, self.status) if it]
 
     def wanted(self, height, width):
         """The lines that are to be seen, and the row of the first one of the console."""
@@ -77,8 +93,7 @@ class Window:
             said = self.below(height - rows, width)
             first = 0
         else:
-            over = self.over(width)
-            said = [over] if over else []
+            said = self.over(width)[: max(1, height - 1)]
             # The line with the cursor is to be seen.
             room = height - len(said)
             first = min(max(0, it.y - room + 1), rows - room)
