@@ -1,5 +1,6 @@
 """The compiler's command line."""
 
+import gc
 import os
 import sys
 
@@ -10,7 +11,7 @@ from volumes.text import decoded, is_text_file
 from . import report
 from .parsing.texts import read_text
 from .program import HEAP, LINE_ENDS, Options, Refused, compile_text
-from .runtime import FILES, path_of
+from .runtime import FILES, keep_library, path_of
 
 ABOUT = """Compiles UCSD Pascal to a code file that pgroup runs. docs/PASCAL.md says which Pascal.
 
@@ -146,6 +147,7 @@ def make(words):
     text = read_text(words.file)
     options = Options(words.line_end, words.heap, not words.no_echo, words.files, words.show_files)
     program = compile_text(text, words.file, options)
+    keep_library()
     for note in program.notes:
         print(note, file=sys.stderr)
     if words.asm:
@@ -172,6 +174,7 @@ def main(arguments):
         print("standard output: it is closed", file=sys.stderr)
         return 1
     sys.setrecursionlimit(RECURSION)
+    gc.disable()  # the trees of a text live until the end, and looking for others takes a tenth
     try:
         make(words)
         if sys.stdout is not None:

@@ -27,8 +27,7 @@ class RoutineGenerator(Statements):
     def procedure(self):
         routine, code = self.routine, self.code
         for copy in routine.copies:
-            with self.temporaries():
-                self.copy_parameter(copy)
+            self.with_temporaries(self.copy_parameter, copy)
         self.statement(routine.body)
         code.set("exit")
         for ending in routine.endings:

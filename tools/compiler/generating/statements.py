@@ -1,6 +1,6 @@
 """Statements."""
 
-from contextlib import contextmanager
+from functools import cached_property
 
 from ..checking import tree
 from ..checking.types import REAL
@@ -17,7 +17,14 @@ SCRATCH, FEW = 80, 3
 
 class Statements(Blocks):
     def statement(self, node):
-        makers = {
+        if not isinstance(node, tree.Block):
+            self.code.place = node.place
+        self.with_temporaries(self.doers[type(node)], node)
+        assert self.code.depth == 0, "a statement leaves words on the evaluation stack"
+
+    @cached_property
+    def doers(self):
+        return {
             tree.Block: self.block, tree.Assign: self.assign, tree.MoveWords: self.move_words,
             tree.StoreText: self.store_text, tree.WriteText: self.write_text,
             tree.Perform: lambda it: self.push(it.value), tree.Transfer: self.transfer,
@@ -25,17 +32,11 @@ class Statements(Blocks):
             tree.Repeat: self.repeat, tree.For: self.for_statement, tree.Case: self.case,
             tree.With: self.with_statement, tree.Goto: self.goto, tree.Labelled: self.labelled,
         }
-        if not isinstance(node, tree.Block):
-            self.code.place = node.place
-        with self.temporaries():
-            makers[type(node)](node)
-        assert self.code.depth == 0, "a statement leaves words on the evaluation stack"
 
-    @contextmanager
-    def temporaries(self):
-        """Temporaries that are made here are free again behind."""
+    def with_temporaries(self, make, node):
+        """Makes the code of a node. The temporaries that it takes are free again behind."""
         top = self.top
-        yield
+        make(node)
         self.top = top
 
     def temporary(self, words):
