@@ -99,6 +99,9 @@ def words_parser():
                         "has the bytes of PATH; may be given again")
     parser.add_argument("--show-files", action="store_true",
                         help="CLOSE(F, LOCK) prints the file between marks; tools/files reads them")
+    parser.add_argument("--pack-texts", action="store_true",
+                        help="texts that are written take less room and more steps; it is done by "
+                        "itself if the code is too large")
     modes = parser.add_mutually_exclusive_group()
     modes.add_argument("--check", action="store_true", help="only says what is wrong")
     modes.add_argument("--asm", action="store_true", help="prints the program as assembly")
@@ -116,7 +119,7 @@ class FileAlone:
 
     output = where = None
     line_end, heap, files = "lf", HEAP, ()
-    no_echo = show_files = check = asm = list = library = False
+    no_echo = show_files = pack_texts = check = asm = list = library = False
 
     def __init__(self, file):
         self.file = file
@@ -145,7 +148,8 @@ def make(words):
         print("\n".join(library()), end="")
         return
     text = read_text(words.file)
-    options = Options(words.line_end, words.heap, not words.no_echo, words.files, words.show_files)
+    options = Options(words.line_end, words.heap, not words.no_echo, words.files, words.show_files,
+                      words.pack_texts)
     program = compile_text(text, words.file, options)
     keep_library()
     for note in program.notes:

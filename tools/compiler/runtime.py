@@ -15,7 +15,7 @@ from .trees import keep, kept, kept_tree
 
 FOLDER = os.path.join(os.path.dirname(os.path.abspath(__file__)), "library")
 FILES = ("blocks", "output", "input", "strings", "sets", "heap", "reals", "decimals", "transcend",
-         "chance", "files", "directory", "longs")
+         "chance", "files", "directory", "longs", "packed")
 # A procedure begins at the first column of a line, as nothing else does with these words, and ends
 # with an END; there.
 ROUTINE = re.compile(r"^(?:PROCEDURE|FUNCTION) (\w+)", re.M)

@@ -3,7 +3,7 @@
 import struct
 from itertools import repeat
 
-from .faults import Fault, in_range
+from .faults import Fault, TooLarge, in_range
 from .instructions import (BIG, BYTE, CALL, COMPARE, JUMP, LDCI, LEVELS, MOST_BYTES, MOST_FAR,
                            PACKED, PLAIN, SHORT, XJP)
 
@@ -149,7 +149,7 @@ class Encoder:
                 part = coded or self.encode(line)
                 code += part
                 if self.start + len(code) > MOST_BYTES:
-                    raise Fault(f"the segment has more than {MOST_BYTES} bytes")
+                    raise TooLarge(f"the segment has more than {MOST_BYTES} bytes")
             except Fault as fault:  # `at` would take time for each line
                 fault.place = fault.place or line.place
                 raise
@@ -168,7 +168,7 @@ class Encoder:
         part, _ = self.code()
         part += bytes(len(part) % 2)
         if self.start + len(part) + 2 * len(self.far) + 10 > MOST_BYTES:
-            raise Fault(f"the segment has more than {MOST_BYTES} bytes", self.procedure.place)
+            raise TooLarge(f"the segment has more than {MOST_BYTES} bytes", self.procedure.place)
         for target in reversed(self.far):
             part += word(self.start + len(part) - target)
         part += word(2 * self.procedure.data) + word(2 * self.procedure.params)
