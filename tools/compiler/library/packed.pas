@@ -6,14 +6,13 @@
 VAR
   SYMBOLS: ARRAY[1..54] OF INTEGER;
 
-PROCEDURE PUTWORDS(N: INTEGER);   { the first N words }
+PROCEDURE PUTWORDS(N: INTEGER);   { the first N words of SYMBOLS, of 80 characters at most }
 VAR
-  I, REST, CODE, CASES, SHIFT: INTEGER;   { CASES is 32 for small letters }
-  ISOTHER: BOOLEAN;
+  I, K, REST, CODE, CASES, NEXT: INTEGER;  { NEXT is the 30 or 31 before, or 0 }
 BEGIN
-  CASES := 0;
-  SHIFT := 0;
-  ISOTHER := FALSE;
+  K := 0;
+  CASES := 64;
+  NEXT := 0;
   FOR I := 1 TO N DO
     BEGIN
       REST := SYMBOLS[I];
@@ -21,29 +20,29 @@ BEGIN
         BEGIN
           CODE := REST MOD 32;
           REST := REST DIV 32;
-          IF ISOTHER THEN
+          IF NEXT = 0 THEN
+            IF CODE >= 30 THEN NEXT := CODE
+            ELSE
+              BEGIN
+                K := K + 1;
+                IF CODE <= 26 THEN SCRATCH[K] := CHR(CODE + CASES)
+                ELSE IF CODE = 27 THEN SCRATCH[K] := ' '
+                ELSE IF CODE = 28 THEN SCRATCH[K] := '.'
+                ELSE SCRATCH[K] := CHR(LINEEND)
+              END
+          ELSE IF (NEXT = 30) AND (CODE = 30) THEN
             BEGIN
-              PUTCHAR(CHR(CODE + 32));
-              ISOTHER := FALSE
-            END
-          ELSE IF CODE <= 26 THEN
-            BEGIN
-              IF CASES = SHIFT THEN PUTCHAR(CHR(CODE + 64)) ELSE PUTCHAR(CHR(CODE + 96));
-              SHIFT := 0
+              CASES := 160 - CASES;
+              NEXT := 0
             END
           ELSE
-            CASE CODE OF
-              27: PUTCHAR(' ');
-              28: PUTCHAR('.');
-              29: PUTCHAR(CHR(LINEEND));
-              30: IF SHIFT = 0 THEN SHIFT := 32
-                  ELSE
-                    BEGIN
-                      CASES := 32 - CASES;
-                      SHIFT := 0
-                    END;
-              31: ISOTHER := TRUE
+            BEGIN
+              K := K + 1;
+              IF NEXT = 31 THEN SCRATCH[K] := CHR(CODE + 32)
+              ELSE SCRATCH[K] := CHR(CODE + 160 - CASES);
+              NEXT := 0
             END
         END
-    END
+    END;
+  PUTTEXT(K)
 END;
