@@ -1,5 +1,5 @@
-"""What the compiler keeps between runs: the library's syntax trees, by the sum of what they are made
-of."""
+"""What the compiler keeps between runs: the library's syntax trees, by the sum of what they are
+made of."""
 
 import glob
 import os
