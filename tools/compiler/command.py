@@ -10,7 +10,7 @@ from volumes.text import decoded, is_text_file
 
 from . import report
 from .parsing.texts import read_text
-from .program import HEAP, LINE_ENDS, Options, Refused, compile_text
+from .program import HEAP, LINE_ENDS, SCREENS, Options, Refused, compile_text
 from .runtime import FILES, keep_library, path_of
 
 ABOUT = """Compiles UCSD Pascal to a code file that pgroup runs. docs/PASCAL.md says which Pascal.
@@ -99,6 +99,9 @@ def words_parser():
                         "has the bytes of PATH; may be given again")
     parser.add_argument("--show-files", action="store_true",
                         help="CLOSE(F, LOCK) prints the file between marks; tools/files reads them")
+    parser.add_argument("--screen", choices=SCREENS, default="ansi",
+                        help="the terminal whose codes GOTOXY and PAGE write; console --screen "
+                        "shows those of an old one. ansi, a terminal of today, without")
     parser.add_argument("--pack-texts", action="store_true",
                         help="texts that are written take less room and more steps; it is done by "
                         "itself if the code is too large")
@@ -118,7 +121,7 @@ class FileAlone:
     """The words of a call with a file and no options."""
 
     output = where = None
-    line_end, heap, files = "lf", HEAP, ()
+    line_end, heap, files, screen = "lf", HEAP, (), "ansi"
     no_echo = show_files = pack_texts = check = asm = list = library = False
 
     def __init__(self, file):
@@ -149,7 +152,7 @@ def make(words):
         return
     text = read_text(words.file)
     options = Options(words.line_end, words.heap, not words.no_echo, words.files, words.show_files,
-                      words.pack_texts)
+                      words.pack_texts, words.screen)
     program = compile_text(text, words.file, options)
     keep_library()
     for note in program.notes:

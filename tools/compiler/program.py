@@ -17,6 +17,7 @@ from .runtime import Library
 from .units import APPLESTUFF, Units
 
 LINE_ENDS = {"lf": 10, "cr": 13}
+SCREENS = ("ansi", "vt52", "adm3a", "soroc", "apple")
 HEAP = 4000
 MOST_FILES = 10  # of memory that are open at once, and the console and keyboard
 SEGMENT = 1
@@ -31,6 +32,7 @@ class Options(Fields):
     files: List[Any] = list  # pairs of a name and the bytes that a file of memory begins with
     is_shown: bool = False  # a file that is locked is printed
     is_packed: bool = False  # texts that are written are packed
+    screen: str = "ansi"  # the terminal for GOTOXY and PAGE
 
 
 class Compiled(Fields):
@@ -77,7 +79,8 @@ def constants_of(checker, options, units=()):
     """What the library is told of a program, by names of constants."""
     return {"LINEEND": LINE_ENDS[options.line_end], "HEAPWORDS": options.heap,
             "ECHOED": 1 if options.is_echoed else 0, "MIXED": 1 if APPLESTUFF in units else 0,
-            "HASFILES": int(checker.has_files), "ISSHOWN": int(options.is_shown),
+            "SCREEN": SCREENS.index(options.screen), "HASFILES": int(checker.has_files),
+            "ISSHOWN": int(options.is_shown),
             "MOSTFILES": MOST_FILES if checker.has_files else 2}
 
 
