@@ -1,5 +1,6 @@
 """The compiler's command line."""
 
+import gc
 import os
 import sys
 
@@ -9,8 +10,8 @@ from volumes.text import decoded, is_text_file
 
 from . import report
 from .parsing.texts import read_text
-from .program import HEAP, LINE_ENDS, Options, Refused, compile_text
-from .runtime import FILES, path_of
+from .program import HEAP, LINE_ENDS, SCREENS, Options, Refused, compile_text
+from .runtime import FILES, keep_library, path_of
 
 ABOUT = """Compiles UCSD Pascal to a code file that pgroup runs. docs/PASCAL.md says which Pascal.
 
@@ -98,6 +99,12 @@ def words_parser():
                         "has the bytes of PATH; may be given again")
     parser.add_argument("--show-files", action="store_true",
                         help="CLOSE(F, LOCK) prints the file between marks; tools/files reads them")
+    parser.add_argument("--screen", choices=SCREENS, default="ansi",
+                        help="the terminal whose codes GOTOXY and PAGE write; console --screen "
+                        "shows those of an old one. ansi, a terminal of today, without")
+    parser.add_argument("--pack-texts", action="store_true",
+                        help="texts that are written take less room and more steps; it is done by "
+                        "itself if the code is too large")
     modes = parser.add_mutually_exclusive_group()
     modes.add_argument("--check", action="store_true", help="only says what is wrong")
     modes.add_argument("--asm", action="store_true", help="prints the program as assembly")
@@ -114,8 +121,8 @@ class FileAlone:
     """The words of a call with a file and no options."""
 
     output = where = None
-    line_end, heap, files = "lf", HEAP, ()
-    no_echo = show_files = check = asm = list = library = False
+    line_end, heap, files, screen = "lf", HEAP, (), "ansi"
+    no_echo = show_files = pack_texts = check = asm = list = library = False
 
     def __init__(self, file):
         self.file = file
@@ -144,8 +151,10 @@ def make(words):
         print("\n".join(library()), end="")
         return
     text = read_text(words.file)
-    options = Options(words.line_end, words.heap, not words.no_echo, words.files, words.show_files)
+    options = Options(words.line_end, words.heap, not words.no_echo, words.files, words.show_files,
+                      words.pack_texts, words.screen)
     program = compile_text(text, words.file, options)
+    keep_library()
     for note in program.notes:
         print(note, file=sys.stderr)
     if words.asm:
@@ -172,6 +181,7 @@ def main(arguments):
         print("standard output: it is closed", file=sys.stderr)
         return 1
     sys.setrecursionlimit(RECURSION)
+    gc.disable()  # the trees of a text live until the end, and looking for others takes a tenth
     try:
         make(words)
         if sys.stdout is not None:

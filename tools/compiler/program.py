@@ -4,7 +4,7 @@ import re
 from typing import Any, List
 
 from pcode.codefile import code_file
-from pcode.faults import Fault, at
+from pcode.faults import Fault, TooLarge, at
 from pcode.parts import Procedure
 from pcode.fields import Fields
 
@@ -17,6 +17,7 @@ from .runtime import Library
 from .units import APPLESTUFF, Units
 
 LINE_ENDS = {"lf": 10, "cr": 13}
+SCREENS = ("ansi", "vt52", "adm3a", "soroc", "apple")
 HEAP = 4000
 MOST_FILES = 10  # of memory that are open at once, and the console and keyboard
 SEGMENT = 1
@@ -30,6 +31,8 @@ class Options(Fields):
     is_echoed: bool = True  # READ from INPUT shows what it reads
     files: List[Any] = list  # pairs of a name and the bytes that a file of memory begins with
     is_shown: bool = False  # a file that is locked is printed
+    is_packed: bool = False  # texts that are written are packed
+    screen: str = "ansi"  # the terminal for GOTOXY and PAGE
 
 
 class Compiled(Fields):
@@ -76,7 +79,8 @@ def constants_of(checker, options, units=()):
     """What the library is told of a program, by names of constants."""
     return {"LINEEND": LINE_ENDS[options.line_end], "HEAPWORDS": options.heap,
             "ECHOED": 1 if options.is_echoed else 0, "MIXED": 1 if APPLESTUFF in units else 0,
-            "HASFILES": int(checker.has_files), "ISSHOWN": int(options.is_shown),
+            "SCREEN": SCREENS.index(options.screen), "HASFILES": int(checker.has_files),
+            "ISSHOWN": int(options.is_shown),
             "MOSTFILES": MOST_FILES if checker.has_files else 2}
 
 
@@ -106,15 +110,37 @@ def checked(text, file, options):
 
 
 def compile_text(text, file, options=None) -> Compiled:
-    """Compiles a program. Its faults are raised as Refused."""
-    checker, notes = checked(text, file, options or Options())
+    """Compiles a program. Its faults are raised as Refused. If its code is too large the texts that
+    it writes are packed."""
+    options = options or Options()
+    try:
+        return compiled(text, file, options)
+    except TooLarge as fault:
+        if options.is_packed:
+            raise Refused([fault]) from None
+    fields = dict(zip(options._names, options.fields()), is_packed=True)
+    try:
+        program = compiled(text, file, Options(**fields))
+    except TooLarge as fault:
+        raise Refused([fault]) from None
+    program.notes.append(f"{file}: note: the texts that it writes are packed, as its code would "
+                         "otherwise be too large")
+    return program
+
+
+def compiled(text, file, options):
+    checker, notes = checked(text, file, options)
     main = checker.main
     try:
         with at(main.place):
-            program, *others = Generator(checker.routines, checker.library).procedures()
+            generator = Generator(checker.routines, checker.library, checker.texts,
+                                  LINE_ENDS[options.line_end], options.is_packed)
+            program, *others = generator.procedures()
             procedures = others + [program]
             name = re.sub(r"[^A-Z0-9]", "", main.name.upper())[:8]
             data = code_file(name, SEGMENT, procedures, main.place)
+    except TooLarge:
+        raise
     except Fault as fault:
         raise Refused([fault]) from None
     return Compiled(name, procedures, data, notes)

@@ -11,10 +11,11 @@ from .faults import Faults
 from .parsing.declarations import Parser
 from .parsing.lexer import Lexer, fold
 from .parsing.texts import read_text
+from .trees import keep, kept, kept_tree
 
 FOLDER = os.path.join(os.path.dirname(os.path.abspath(__file__)), "library")
 FILES = ("blocks", "output", "input", "strings", "sets", "heap", "reals", "decimals", "transcend",
-         "chance", "files", "directory", "longs")
+         "chance", "files", "directory", "longs", "packed")
 # A procedure begins at the first column of a line, as nothing else does with these words, and ends
 # with an END; there.
 ROUTINE = re.compile(r"^(?:PROCEDURE|FUNCTION) (\w+)", re.M)
@@ -56,6 +57,14 @@ def parted(text, file):
 def parts():
     """The declarations of each file, without its procedures; the numbers of the files in whose
     declarations a name is declared; and all procedures by their names, with their files."""
+    if not kept():
+        return parts_of_texts()
+    rests, places, routines = kept()[0]
+    return ([Part(*it) for it in rests], places,
+            {name: (number, Part(*it)) for name, (number, it) in routines.items()})
+
+
+def parts_of_texts():
     rests, places, routines = [], {}, {}
     for number, name in enumerate(FILES):
         path = path_of(name)
@@ -71,12 +80,27 @@ def parts():
 @lru_cache(maxsize=None)
 def declarations_of(part):
     """The syntax trees of a part, which nobody changes: a process may compile many programs."""
+    return kept_tree(part) or trees_of(part)
+
+
+def trees_of(part):
     faults = Faults()
     lexer = Lexer(part.text, part.file, line=part.line)
     lexer.options["R"] = False  # as {$R-} says at the top of each file
     declarations = Parser(lexer.all(), faults).library()
     refuse_first(faults)
     return declarations
+
+
+def keep_library():
+    """Keeps the parts of the library and their trees for the next run, unless they are kept."""
+    if kept():
+        return
+    rests, places, routines = parts()
+    own = [*rests, *(part for _, part in routines.values())]
+    keep((list(map(tuple, rests)), places,
+          {name: (number, tuple(part)) for name, (number, part) in routines.items()}),
+         ((part, declarations_of(part)) for part in own))
 
 
 class Library:

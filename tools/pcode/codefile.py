@@ -3,7 +3,7 @@
 import struct
 
 from .encoder import Encoder, byte, word
-from .faults import Fault
+from .faults import TooLarge
 from .instructions import BLOCK, MOST_BYTES
 
 
@@ -18,7 +18,7 @@ def code_file(name, number, procedures, file, encoder=Encoder):
         segment += part
         tables[procedure.number] = jtab
     if len(segment) + 2 * len(tables) + 2 > MOST_BYTES:
-        raise Fault(f"the segment has more than {MOST_BYTES} bytes", file)
+        raise TooLarge(f"the segment has more than {MOST_BYTES} bytes", file)
     for it in sorted(tables, reverse=True):
         segment += word(len(segment) - tables[it])
     segment += byte(number) + byte(len(tables))

@@ -1,8 +1,9 @@
 """Encodes the instructions of one procedure."""
 
 import struct
+from itertools import repeat
 
-from .faults import Fault, in_range
+from .faults import Fault, TooLarge, in_range
 from .instructions import (BIG, BYTE, CALL, COMPARE, JUMP, LDCI, LEVELS, MOST_BYTES, MOST_FAR,
                            PACKED, PLAIN, SHORT, XJP)
 
@@ -10,9 +11,12 @@ FORMS = (PLAIN, SHORT, BYTE, BIG, LEVELS, PACKED, COMPARE, CALL, JUMP, {"LDCI": 
 TABLES = {name: table for table in FORMS for name in table}
 
 
+BYTES = [bytes([it]) for it in range(256)]
+
+
 def byte(value):
     """A byte, of a number from -128 to 255."""
-    return bytes([value % 256])
+    return BYTES[value % 256]
 
 
 def word(value):
@@ -35,6 +39,7 @@ class Encoder:
         self.start = start
         self.offsets = {}  # of labels
         self.far = []  # targets of the jump table, the one at JTAB-10 first
+        self.known = []  # of each instruction its bytes, or None if they depend on labels
 
     def number(self, operand):
         """The number that an operand is."""
@@ -136,17 +141,20 @@ class Encoder:
 
     def code(self):
         """The bytes of all instructions, and the offsets of the labels."""
-        code, places = bytearray(), []
-        for line in self.procedure.lines:
+        code, places, known = bytearray(), [], []
+        for line, coded in zip(self.procedure.lines, self.known or repeat(None)):
             line.at = self.start + len(code)
             places.append(line.at)
             try:
-                code += self.encode(line)
+                part = coded or self.encode(line)
+                code += part
                 if self.start + len(code) > MOST_BYTES:
-                    raise Fault(f"the segment has more than {MOST_BYTES} bytes")
+                    raise TooLarge(f"the segment has more than {MOST_BYTES} bytes")
             except Fault as fault:  # `at` would take time for each line
                 fault.place = fault.place or line.place
                 raise
+            known.append(None if line.name in JUMP or line.name == "XJP" else part)
+        self.known = known
         labels = self.procedure.labels.items()
         return bytes(code), {name: places[label.index] for name, label in labels}
 
@@ -160,7 +168,7 @@ class Encoder:
         part, _ = self.code()
         part += bytes(len(part) % 2)
         if self.start + len(part) + 2 * len(self.far) + 10 > MOST_BYTES:
-            raise Fault(f"the segment has more than {MOST_BYTES} bytes", self.procedure.place)
+            raise TooLarge(f"the segment has more than {MOST_BYTES} bytes", self.procedure.place)
         for target in reversed(self.far):
             part += word(self.start + len(part) - target)
         part += word(2 * self.procedure.data) + word(2 * self.procedure.params)

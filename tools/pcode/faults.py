@@ -11,6 +11,10 @@ class Fault(Exception):
         self.place = place
 
 
+class TooLarge(Fault):
+    """A segment has more bytes than one may have."""
+
+
 @contextmanager
 def at(place):
     """Faults that are met here without a place are of this one."""

@@ -5,17 +5,18 @@ from typing import Any, Dict, List, Optional
 from .fields import Fields
 
 
-class Line(Fields):
+class Line:
     """An instruction, and where it comes from; its offset in the segment as soon as it is known.
 
     An operand is a number, the name of a label or the number of a procedure; in the assembler it is
-    the word of the source that means one of these.
+    the word of the source that means one of these. A program has thousands of them, so that they
+    are no Fields.
     """
 
-    place: Any
-    name: str
-    operands: List[Any]
-    at: int = 0
+    __slots__ = ("place", "name", "operands", "at")
+
+    def __init__(self, place, name, operands, at=0):
+        self.place, self.name, self.operands, self.at = place, name, operands, at
 
     def __str__(self):
         return " ".join([self.name] + [str(operand) for operand in self.operands])

@@ -48,8 +48,7 @@ class OldRoutine(OldCalls, RoutineGenerator):
     def procedure(self):
         routine, code = self.routine, self.code
         for copy in routine.copies:
-            with self.temporaries():
-                self.copy_parameter(copy)
+            self.with_temporaries(self.copy_parameter, copy)
         for variable in self.program.files.get(id(routine), ()):
             self.begin_file(variable)
         self.statement(routine.body)

@@ -200,7 +200,13 @@ class Calls:
         target, source = self.address(), self.address()
         text, more = self.string(target), self.string(source)
         if len(text) + len(more) <= most and 1 <= at <= len(text) + 1:
-            self.put_string(target, text[:at - 1] + more + text[at - 1:])
+            # The system makes room first, and then copies: of a string that gets itself what was
+            # moved is overwritten by then.
+            moved = bytearray(text[:at - 1] + text[at - 1:at - 1 + len(more)].ljust(len(more))
+                              + text[at - 1:])
+            for k in range(len(more)):
+                moved[at - 1 + k] = moved[k] if source == target else more[k]
+            self.put_string(target, bytes(moved))
 
     def part(self):
         """What COPY and DELETE take: where it begins and ends, or None if it is outside."""

@@ -43,6 +43,7 @@ class InputOutput(StandardProcedures):
         if not text:
             return []
         written = tree.WriteText(node.place, text)
+        self.texts[text] += not self.is_library
         if not self.destination:
             return [written]
         return [tree.Perform(node.place, self.selected(self.destination)), written,

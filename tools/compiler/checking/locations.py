@@ -1,5 +1,7 @@
 """Checks variables, with their indices, fields and targets."""
 
+from functools import cached_property
+
 from ..parsing import syntax
 from . import tree
 from .context import kind_of, low_bit, number
@@ -11,11 +13,14 @@ from .types import CHAR, INTEGER, Array, File, Ordinal, Pointer, Record, String,
 class Locations(TypeMaker):
     def location(self, node):
         """The location of a variable."""
-        makers = {syntax.Name: self.variable, syntax.Index: self.indexed,
-                  syntax.Field: self.field, syntax.Dereference: self.target}
-        if type(node) not in makers:
+        if type(node) not in self.location_makers:
             self.refuse("a variable is wanted here", node.place)
-        return makers[type(node)](node)
+        return self.location_makers[type(node)](node)
+
+    @cached_property
+    def location_makers(self):
+        return {syntax.Name: self.variable, syntax.Index: self.indexed,
+                syntax.Field: self.field, syntax.Dereference: self.target}
 
     def variable(self, name):
         symbol = self.scopes.find(name)

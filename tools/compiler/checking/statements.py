@@ -1,5 +1,7 @@
 """Checks statements."""
 
+from functools import cached_property
+
 from ..parsing import syntax
 from . import tree
 from .context import kind_of, low_bit, number
@@ -44,7 +46,13 @@ class Statements(InputOutput):
         checked = tree.Block([])
         if node is None:
             return checked
-        makers = {
+        with self.faults.caught():
+            checked = self.statement_makers[type(node)](node)
+        return checked
+
+    @cached_property
+    def statement_makers(self):
+        return {
             syntax.Compound: lambda it: self.block_of(it.statements), syntax.Assign: self.assign,
             syntax.CallStatement: self.call_statement, syntax.If: self.if_statement,
             syntax.While: self.while_statement, syntax.Repeat: self.repeat,
@@ -52,9 +60,6 @@ class Statements(InputOutput):
             syntax.With: self.with_statement, syntax.Goto: self.goto,
             syntax.Labelled: self.labelled,
         }
-        with self.faults.caught():
-            checked = makers[type(node)](node)
-        return checked
 
     def block_of(self, statements):
         return tree.Block([self.statement(it) for it in statements])

@@ -1,6 +1,7 @@
 """Checks expressions."""
 
 import operator
+from functools import cached_property
 
 from ..parsing import syntax
 from ..parsing.expressions import PARENTHESES
@@ -37,16 +38,18 @@ COMPARED = {"=": operator.eq, "<>": operator.ne, "<": operator.lt, "<=": operato
 class Values(LongValues):
     def value(self, node):
         """The checked tree of an expression."""
-        makers = {
+        make = self.value_makers.get(type(node))
+        return make(node) if make else self.loaded(self.location(node))
+
+    @cached_property
+    def value_makers(self):
+        return {
             syntax.Number: self.number, syntax.Text: lambda it: self.text(it.value),
             syntax.LongNumber: self.long_number,
             syntax.Real: lambda it: tree.RealValue(REAL, self.constant(it).value),
             syntax.Name: self.named, syntax.Call: self.call_value,
             syntax.Operation: self.operation, syntax.Unary: self.unary, syntax.SetOf: self.set_of,
         }
-        if type(node) in makers:
-            return makers[type(node)](node)
-        return self.loaded(self.location(node))
 
     def loaded(self, location):
         return tree.Load(location.type, location)

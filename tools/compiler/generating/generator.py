@@ -1,5 +1,7 @@
 """The procedures of a code file, of the routines of a checked program."""
 
+from collections import Counter
+
 from pcode.faults import Fault
 from pcode.parts import Procedure
 
@@ -9,6 +11,7 @@ from .exits import exits_of
 from .far import spread
 from .places import Frame
 from .statements import Statements
+from .texts import Texts
 
 MOST_ROUTINES = 255
 
@@ -27,8 +30,7 @@ class RoutineGenerator(Statements):
     def procedure(self):
         routine, code = self.routine, self.code
         for copy in routine.copies:
-            with self.temporaries():
-                self.copy_parameter(copy)
+            self.with_temporaries(self.copy_parameter, copy)
         self.statement(routine.body)
         code.set("exit")
         for ending in routine.endings:
@@ -78,8 +80,10 @@ class RoutineGenerator(Statements):
 class Generator:
     """Makes all procedures: those of the program, and what they use of the library."""
 
-    def __init__(self, routines, library):
+    def __init__(self, routines, library, texts=None, line_end=10, is_packed=False):
         self.routines, self.library = list(routines), library
+        self.texts = Texts(texts or Counter())
+        self.line_end, self.is_packed = line_end, is_packed
         self.main = routines[0]
         self.waiting = []  # routines of the library that are called, and not made yet
         self.exits, self.asked = exits_of(self.routines)

@@ -1,5 +1,6 @@
 """Locations: what is pushed for one, and how it is loaded and stored then."""
 
+from functools import cached_property
 from typing import Any
 
 from pcode.fields import Fields
@@ -42,13 +43,16 @@ class Places:
 
     def place(self, location):
         """Pushes what is needed for a location, and answers which place it is."""
-        makers = {
+        return self.placers[type(location)](location)
+
+    @cached_property
+    def placers(self):
+        return {
             tree.VariableAt: self.variable_place, tree.Opened: self.opened_place,
             tree.Target: self.target_place, tree.FieldAt: self.field_place,
             tree.ElementAt: self.element_place, tree.CharacterAt: self.character_place,
             tree.WindowAt: lambda it: self.place(it.base).moved(1),
         }
-        return makers[type(location)](location)
 
     def variable_place(self, location):
         variable = location.variable

@@ -1,23 +1,34 @@
 """Statements."""
 
-from contextlib import contextmanager
+from functools import cached_property
 
 from ..checking import tree
 from ..checking.types import REAL
 from .blocks import Blocks
 from .exits import nodes_of
 from .places import Frame
+from .texts import cost, packed
 from .values import words_of
 
 # Of a table for CASE: the words that lead nowhere, for each constant.
 MOST_SPARE = 8
 # Characters that are written at once, as the library's SCRATCH has room; fewer go one by one.
 SCRATCH, FEW = 80, 3
+# Where the library's procedures have the words of a text that they write.
+WRITTEN = {"PUTTEXT": "SCRATCH", "PUTWORDS": "SYMBOLS"}
+WRITING = 8  # bytes of what writes a text beside its words, about
 
 
 class Statements(Blocks):
     def statement(self, node):
-        makers = {
+        if not isinstance(node, tree.Block):
+            self.code.place = node.place
+        self.with_temporaries(self.doers[type(node)], node)
+        assert self.code.depth == 0, "a statement leaves words on the evaluation stack"
+
+    @cached_property
+    def doers(self):
+        return {
             tree.Block: self.block, tree.Assign: self.assign, tree.MoveWords: self.move_words,
             tree.StoreText: self.store_text, tree.WriteText: self.write_text,
             tree.Perform: lambda it: self.push(it.value), tree.Transfer: self.transfer,
@@ -25,17 +36,11 @@ class Statements(Blocks):
             tree.Repeat: self.repeat, tree.For: self.for_statement, tree.Case: self.case,
             tree.With: self.with_statement, tree.Goto: self.goto, tree.Labelled: self.labelled,
         }
-        if not isinstance(node, tree.Block):
-            self.code.place = node.place
-        with self.temporaries():
-            makers[type(node)](node)
-        assert self.code.depth == 0, "a statement leaves words on the evaluation stack"
 
-    @contextmanager
-    def temporaries(self):
-        """Temporaries that are made here are free again behind."""
+    def with_temporaries(self, make, node):
+        """Makes the code of a node. The temporaries that it takes are free again behind."""
         top = self.top
-        yield
+        make(node)
         self.top = top
 
     def temporary(self, words):
@@ -71,17 +76,33 @@ class Statements(Blocks):
         self.code.emit("STM", len(words))
 
     def write_text(self, node):
-        for k in range(0, len(node.text), SCRATCH):
-            part = node.text[k:k + SCRATCH]
+        parts = [node.text[k:k + SCRATCH] for k in range(0, len(node.text), SCRATCH)]
+        size = sum(cost(self.written_words(it)[1]) + WRITING for it in parts)
+        routine = self.program.texts.routine(node, size, len(self.program.routines))
+        if routine and routine is not self.routine:
+            self.enter(routine)
+            return
+        for part in parts:
             if len(part) <= FEW:
                 for character in part:
                     self.code.number(ord(character))
                     self.call_library("PUTCHAR")
                 continue
-            variable = self.program.library["SCRATCH"]
-            self.store_words(Frame(variable.routine, self.offset_of(variable)), words_of(part))
-            self.code.number(len(part))
-            self.call_library("PUTTEXT")
+            writer, words, count = self.written_words(part)
+            variable = self.program.library[WRITTEN[writer]]
+            self.store_words(Frame(variable.routine, self.offset_of(variable)), words)
+            self.code.number(count)
+            self.call_library(writer)
+
+    def written_words(self, part):
+        """What writes a part of a text: a procedure of the library, the words for it, and what
+        their number is to it."""
+        words = words_of(part)
+        if self.program.is_packed:
+            smaller = packed(part, self.program.line_end)
+            if smaller and cost(smaller) < cost(words):
+                return "PUTWORDS", smaller, len(smaller)
+        return "PUTTEXT", words, len(part)
 
     def transfer(self, node):
         for value in node.values:

@@ -1,5 +1,7 @@
 """Values, and calls."""
 
+from functools import cached_property
+
 from ..checking import tree
 from ..checking.reals import words_of as words_of_real
 from ..checking.types import REAL
@@ -18,7 +20,11 @@ def words_of(text, length=None):
 class Values(Places):
     def push(self, node):
         """Pushes a value, or the address that an argument is."""
-        makers = {
+        self.pushers[type(node)](node)
+
+    @cached_property
+    def pushers(self):
+        return {
             tree.Constant: lambda it: self.code.number(it.value),
             tree.Load: self.load_value, tree.RealValue: self.real_value,
             tree.Operation: self.operation, tree.Call: self.call, tree.Among: self.among,
@@ -30,7 +36,6 @@ class Values(Places):
             tree.Select: self.select, tree.LongAddress: lambda it: self.long_address(it.value),
             tree.LongFitted: self.long_fitted,
         }
-        makers[type(node)](node)
 
     def load_value(self, node):
         place = self.place(node.location)

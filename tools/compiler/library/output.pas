@@ -88,18 +88,45 @@ BEGIN
   IF HASFILES = 1 THEN PUTBYTES(T, 0, N) ELSE UNITWRITE(1, T, N)
 END;
 
-{ The codes of a terminal: column X and line Y, from 0 }
+{ The codes of a terminal: column X and line Y, from 0. SCREEN says which terminal: 0 is one of
+  today, 1 a VT52, 2 an ADM-3A, 3 a Soroc, 4 the console of Apple Pascal }
 PROCEDURE SCREENXY(X, Y: INTEGER);
 BEGIN
-  PUTCHAR(CHR(27)); PUTCHAR('[');
-  WRITEINT(Y + 1, 0);
-  PUTCHAR(';');
-  WRITEINT(X + 1, 0);
-  PUTCHAR('H')
+  IF SCREEN = 0 THEN
+    BEGIN
+      PUTCHAR(CHR(27)); PUTCHAR('[');
+      WRITEINT(Y + 1, 0);
+      PUTCHAR(';');
+      WRITEINT(X + 1, 0);
+      PUTCHAR('H')
+    END
+  ELSE IF SCREEN = 4 THEN
+    BEGIN
+      PUTCHAR(CHR(30)); PUTCHAR(CHR(X + 32)); PUTCHAR(CHR(Y + 32))
+    END
+  ELSE
+    BEGIN
+      PUTCHAR(CHR(27));
+      IF SCREEN = 1 THEN PUTCHAR('Y') ELSE PUTCHAR('=');
+      PUTCHAR(CHR(Y + 32)); PUTCHAR(CHR(X + 32))
+    END
 END;
 
 PROCEDURE CLEARSCREEN;           { and goes to its upper left corner }
 BEGIN
-  PUTCHAR(CHR(27)); PUTCHAR('['); PUTCHAR('2'); PUTCHAR('J');
-  SCREENXY(0, 0)
+  IF SCREEN = 0 THEN
+    BEGIN
+      PUTCHAR(CHR(27)); PUTCHAR('['); PUTCHAR('2'); PUTCHAR('J');
+      SCREENXY(0, 0)
+    END
+  ELSE IF SCREEN = 1 THEN
+    BEGIN
+      PUTCHAR(CHR(27)); PUTCHAR('H'); PUTCHAR(CHR(27)); PUTCHAR('J')
+    END
+  ELSE IF SCREEN = 2 THEN PUTCHAR(CHR(26))
+  ELSE IF SCREEN = 3 THEN
+    BEGIN
+      PUTCHAR(CHR(27)); PUTCHAR('*'); PUTCHAR(CHR(30))
+    END
+  ELSE PUTCHAR(CHR(12))
 END;

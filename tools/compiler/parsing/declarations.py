@@ -201,8 +201,8 @@ class Parser(TypeParser):
     def skip_heading(self):
         """Leaves out a heading with a fault, to its block."""
         opened = 0
-        while self.kind not in (END, "BEGIN", "PROCEDUR", "FUNCTION", "FORWARD", "EXTERNAL"):
-            if not opened and self.kind in PARTS:
+        while self.kind not in (END, "BEGIN", "FORWARD", "EXTERNAL"):
+            if not opened and self.kind in (*PARTS, "PROCEDUR", "FUNCTION"):
                 return
             opened += {"(": 1, ")": -1}.get(self.kind, 0)
             self.next()

@@ -17,7 +17,7 @@ KEYWORDS = {word[:8] for word in (
 END = "the end of the text"
 BAD = "what is no token"
 TOKEN = re.compile(r"""
-    (?P<blank> [ \t\f]+ | \n )
+    (?P<blank> [ \t\f\n]+ )
   | (?P<comment> \{ | \(\* )
   | (?P<real> [0-9]+ ( \. [0-9]+ ( [eE] [-+]? [0-9]+ )? | [eE] [-+]? [0-9]+ ) )
   | (?P<number> [0-9]+ )
@@ -97,17 +97,21 @@ class Lexer:
     def all(self) -> List[Token]:
         while self.at < len(self.text):
             found = TOKEN.match(self.text, self.at)
+            group = found.lastgroup if found else None
+            if group == "blank":
+                self.move(found.end())
+                continue
             try:
                 if not found:
                     self.refuse_character()
-                elif found.lastgroup == "comment":
+                elif group == "comment":
                     self.comment(found[0])
                 else:
-                    self.take(found.lastgroup, found[0])
+                    self.take(group, found[0])
             except Fault as fault:
                 self.remark(fault, fault.place)
-            if found and found.lastgroup != "comment":
-                self.move(found.end())
+            if found and group != "comment":
+                self.at = found.end()  # all of it stands on one line
         if not self.depth:
             self.put(END, END)
         return self.tokens
@@ -135,6 +139,8 @@ class Lexer:
         if group == "name":
             name = fold(written)
             self.put(name if name in KEYWORDS else "name", written, name)
+        elif group == "symbol":
+            self.put(BRACKETS.get(written, written), written)
         elif group == "number":
             digits = written.lstrip("0") or "0"
             if len(digits) > MOST_DIGITS:
@@ -148,8 +154,6 @@ class Lexer:
             if len(written) > MOST_TEXT + 2:
                 raise Fault(f"a text has at most {MOST_TEXT} characters", self.place())
             self.put("text", written, written[1:-1].replace("''", "'"))
-        elif group == "symbol":
-            self.put(BRACKETS.get(written, written), written)
 
     def comment(self, opening):
         place, closing = self.place(), "}" if opening == "{" else "*)"

@@ -142,16 +142,27 @@ class StatementParser(ExpressionParser):
         while self.kind not in ("END", END):
             if self.take(";"):
                 continue
-            if self.kind in ("ELSE", "name") and self.now.written.upper() in ("ELSE", "OTHERWISE"):
-                self.refuse(f"{self.now.written} is no part of UCSD Pascal's CASE: without a match "
-                            "it goes on behind END. Ask with IF in front of it")
+            if self.is_otherwise():
+                self.otherwise()
+                break
             values = self.constants()
             self.want(":", " behind the constants of a CASE")
             branches.append((values, self.statement()))
-            if not self.take(";"):
+            if not self.take(";") and not self.is_otherwise():
                 break
         self.want("END", " behind the statements of a CASE")
         return syntax.Case(place, selector, branches)
+
+    def is_otherwise(self):
+        is_word = self.kind in ("ELSE", "name")
+        return is_word and self.now.written.upper() in ("ELSE", "OTHERWISE")
+
+    def otherwise(self):
+        """Tells of statements that a CASE of other Pascals has, and leaves them out."""
+        token = self.next()
+        self.faults.add(Fault(f"{token.written} is no part of UCSD Pascal's CASE: without a match "
+                              "it goes on behind END. Ask with IF in front of it", token.place))
+        self.statements("END")
 
     def with_statement(self):
         place, records = self.next().place, [self.variable()]

@@ -1,0 +1,75 @@
+"""Texts that a program writes: alike ones are kept once, and all may be packed."""
+
+import random
+
+from ..checks import passed
+from ..program import must
+from .judging import Options, compile_text, run, tool, write
+
+CAPITALS = "".join(map(chr, range(65, 91)))
+ALPHABETS = (CAPITALS + " ", CAPITALS.lower() + " .", "ABCdef. ", "".join(map(chr, range(32, 64))),
+             "".join(map(chr, range(32, 127))), "aB", ".. aaA'")
+TEXT = "Far below something glitters. A shaft leads down, and the cellar is in the west."
+LINES = 600  # of TEXT and its number: too many for a segment, unless they are packed
+
+
+def program_of(lines):
+    quoted = (it.replace("'", "''") for it in lines)
+    return "PROGRAM P;\nBEGIN\n" + ";\n".join(f"WRITELN('{it}')" for it in quoted) + "\nEND.\n"
+
+
+def size_of(text, is_packed=False):
+    data = compile_text(text, "p.pas", Options(is_packed=is_packed)).data
+    return int.from_bytes(data[6:8], "little")
+
+
+def random_lines(source):
+    return ["".join(source.choice(letters) for _ in range(source.randrange(1, 90)))
+            for letters in (source.choice(ALPHABETS) for _ in range(12))]
+
+
+def try_written():
+    """What is written is the text, packed or not, with either end of a line."""
+    source = random.Random(84)
+    for number in range(20):
+        lines = random_lines(source)
+        lines += lines[:2]
+        for line_end, is_packed in (("lf", False), ("lf", True), ("cr", True)):
+            options = Options(line_end=line_end, is_packed=is_packed)
+            found = run(compile_text(program_of(lines), "p.pas", options).data, "")
+            wanted = "".join(f"{it}\n" for it in lines)
+            wanted = wanted.replace("\n", "\r") if line_end == "cr" else wanted
+            must(found == (wanted, ""), f"{number} {options}: {found} is not {wanted!r}")
+    passed("260 lines are written as they stand, also where they are packed")
+
+
+def try_room():
+    """An equal text takes two bytes more, and a packed one at most 1.25 bytes a character with what
+    writes it."""
+    other = program_of(["Another text, that is not the same as any."])
+    one = program_of([TEXT, "Another text, that is not the same as any."])
+    three = program_of([TEXT, TEXT, TEXT, "Another text, that is not the same as any."])
+    four = program_of([TEXT] * 4 + ["Another text, that is not the same as any."])
+    must(size_of(four) - size_of(three) == 2, "a text that is written again is a call")
+    must(size_of(three) < size_of(one) + 30, "a text that is written three times is kept once")
+    taken = size_of(one, True) - size_of(other, True)
+    must(taken <= 1.25 * (len(TEXT) + 1), f"{len(TEXT) + 1} characters take {taken} bytes")
+    passed(f"a packed text of {len(TEXT) + 1} characters takes {taken} bytes")
+
+
+def try_too_large():
+    """Texts are packed by themselves where the code has else no room."""
+    text = program_of(f"{number} {TEXT}" for number in range(LINES))
+    write("large.pas", text)
+    status, _, said = tool("large.pas")
+    must(status == 0 and "the texts that it writes are packed" in said, said)
+    made = compile_text(text, "large.pas")
+    found = run(made.data, "")
+    must(found == ("".join(f"{number} {TEXT}\n" for number in range(LINES)), ""), found)
+    write("larger.pas", program_of(f"{number} {TEXT}" for number in range(2 * LINES)))
+    status, _, said = tool("larger.pas")
+    must(status == 1 and ": the segment has more than 65534 bytes\n" in said, said)
+    passed(f"{LINES} lines that have no room are packed, and twice as many are refused")
+
+
+TESTS = (try_written, try_room, try_too_large)
