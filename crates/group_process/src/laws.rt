@@ -1,5 +1,5 @@
 //! Laws of processes, as facts about the definitions alone.
-ghost use Rattle.std.specs.Prelude.{◌≡◌, ◌+◌, ◌≤◌, ℕ, [], ◌∷◌, ◌++◌, Contains, drop, length, List, None, map, take};
+ghost use Rattle.std.specs.Prelude.{◌≡◌, ◌+◌, ◌≤◌, ℕ, ◌++◌, Contains, drop, length, List, None, map, take};
 ghost use Rattle.pcode_file.specs.Parts.{Parts};
 ghost use Rattle.pcode_machine.specs.Runs.{IsPrefix};
 ghost use Rattle.paxos_msg.specs.declared.message.Group.{Group};
@@ -16,7 +16,7 @@ ghost use Rattle.group_rules.specs.Claims.{ConsolesAgree, ConsolesGrow, Consoles
 ghost use Rattle.group_world.specs.Processes.{Entry};
 ghost use Rattle.group_process.specs.Network.{IsNetworkLog, MayHear, GivenEntry, entries_alone};
 ghost use Rattle.group_process.specs.Runs.{AlwaysLaterOfRuns, AlwaysOfNodes, AlwaysOfRuns, AreHistory, AreRuns, Attempt, ConsolesAreReleased, ConsolesShowRuns, HasRuns, IsAfterRuns, IsGroupLog, LeaveNodes};
-ghost use Rattle.group_process.specs.Terminals.{TerminalRun, TerminalsAreConsoles, TerminalsShowConsoles, TerminalsShowLastRuns, WriteInTurn, terminal_after};
+ghost use Rattle.group_process.specs.Terminals.{TerminalsAreConsoles, TerminalsShowConsoles, TerminalsShowLastRuns};
 
 use group_world::laws::{fronts_of_logs, logs_have_one_end, processes_headline, processes_show};
 use paxos_msg::grammar::{spelling_is_read, spelling_is_short};

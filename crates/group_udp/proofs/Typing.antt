@@ -2,7 +2,7 @@
 use Rattle.std.proofs.lemmas.List.{length-take-le, take-append-drop, take-append-le, take_all}
 use Rattle.std.proofs.Common.{◌≡◌, ◌∙◌, ℕ, ◌≤◌, List, [], ◌∷◌, ◌++◌, drop, length, map, take, false, append_assoc, append-nil, refl, sym, ap, arith}
 use Rattle.group_node.specs.Deeds.{Press}
-use Rattle.group_udp.specs.Prompts.{Gives, Keys, Remaining, before_gift, bytes_in, campaigns_in, no_more, with_more}
+use Rattle.group_udp.specs.Prompts.{GivesWhatCame, KeyboardState, Remaining, before_gift, bytes_in, campaigns_in, no_keys, with_more}
 
 -- two that are the same
 pub same_left : (a b : Remaining) → a.bytes ≡ b.bytes → a.requests ≡ b.requests → a ≡ b
@@ -10,17 +10,17 @@ same_left a b bytes requests = ap (λ x. record { bytes = x; requests = a.reques
     ∙ ap (λ r. record { bytes = b.bytes; requests = r }) requests
 
 -- nothing came
-pub none_came : (left : Remaining) → left ≡ with_more no_more left
-none_came left = same_left left (with_more no_more left) (sym (append-nil left.bytes)) (omega arith)
+pub none_came : (left : Remaining) → left ≡ with_more no_keys left
+none_came left = same_left left (with_more no_keys left) (sym (append-nil left.bytes)) (omega arith)
 
 -- what came twice came at once
 pub came_twice : (a c d : Remaining) → with_more d (with_more c a) ≡ with_more (with_more d c) a
 came_twice a c d = same_left _ _ (append_assoc a.bytes c.bytes d.bytes) (omega arith)
 
 -- a keyboard that has taken in what came
-pub takes_in : (old new : Keys) (came : Remaining) → new.left ≡ with_more came old.left → old.is_closed ≡ false
+pub takes_in : (old new : KeyboardState) (came : Remaining) → new.left ≡ with_more came old.left → old.is_closed ≡ false
     → new.is_closed ≡ old.is_closed
-    → Gives old [] new
+    → GivesWhatCame old [] new
 takes_in old new came left is_open stays = record {
   came = came;
   whole = sym left ∙ same_left new.left (before_gift [] new.left) refl (omega arith);

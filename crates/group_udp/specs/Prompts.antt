@@ -27,8 +27,8 @@ pub record Remaining : Type 0 where
   pub requests : ℕ
 
 -- Nothing.
-abbrev pub no_more : Remaining
-no_more = record { bytes = []; requests = 0 }
+abbrev pub no_keys : Remaining
+no_keys = record { bytes = []; requests = 0 }
 
 -- What a keyboard has left once more has come to it.
 abbrev pub with_more : Remaining → Remaining → Remaining
@@ -45,13 +45,13 @@ before_gift gift left = record {
 }
 
 -- A keyboard: what it has left, and whether it is closed. To a closed one nothing comes any more.
-pub record Keys : Type 0 where
+pub record KeyboardState : Type 0 where
   pub left : Remaining
   pub is_closed : Bool
 
 -- A keyboard that has given these prompts, and to which nothing has come meanwhile.
 -- Forbids: a byte or a request that is given twice, or left out.
-pub record HasGiven (old : Keys) (gift : List Deed) (new : Keys) : Type 0 where
+pub record HasGiven (old : KeyboardState) (gift : List Deed) (new : KeyboardState) : Type 0 where
   pub whole : old.left ≡ before_gift gift new.left
   pub stays : new.is_closed ≡ old.is_closed
 
@@ -59,8 +59,9 @@ pub record HasGiven (old : Keys) (gift : List Deed) (new : Keys) : Type 0 where
 -- Allows: anything that comes to one that is not closed.
 -- Forbids: a byte or a request that is given and did not come; one that came and is neither given
 -- nor left.
-pub record Gives (old : Keys) (gift : List Deed) (new : Keys) : Type 0 where
+pub record GivesWhatCame (old : KeyboardState) (gift : List Deed) (new : KeyboardState)
+    : Type 0 where
   pub came : Remaining
   pub whole : with_more came old.left ≡ before_gift gift new.left
-  pub none_came : old.is_closed ≡ true → came ≡ no_more
+  pub none_came : old.is_closed ≡ true → came ≡ no_keys
   pub stays : new.is_closed ≡ old.is_closed

@@ -1,7 +1,7 @@
 -- What a queue of typed bytes takes in of a datagram.
 use Rattle.std.specs.Prelude.{◌-◌, ℕ, nat_le, Bool, List, [], ◌∷◌, length, min, if◌then◌else◌}
 use Rattle.group_udp.specs.declared.limits.TheConstants.{LONGEST_TYPED, MOST_KEPT}
-use Rattle.group_udp.specs.Prompts.{Remaining, no_more, with_more}
+use Rattle.group_udp.specs.Prompts.{Remaining, no_keys, with_more}
 
 -- A datagram that has room in the queue: it has at most 64 bytes, and at most 65,536 are kept.
 abbrev pub has_room : Remaining → List ℕ → Bool
@@ -16,7 +16,7 @@ abbrev pub came_of : Bool → Remaining → List ℕ → Remaining
 came_of is_apart left [] =
     record { bytes = []; requests = if is_apart then 1 - left.requests else 0 }
 came_of is_apart left (byte ∷ bytes) =
-    if has_room left (byte ∷ bytes) then record { bytes = byte ∷ bytes; requests = 0 } else no_more
+    if has_room left (byte ∷ bytes) then record { bytes = byte ∷ bytes; requests = 0 } else no_keys
 
 -- What the queue has left then.
 abbrev pub taken_in : Bool → Remaining → List ℕ → Remaining

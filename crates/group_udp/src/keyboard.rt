@@ -2,7 +2,7 @@
 ghost use Rattle.std.specs.Prelude.{◌≡◌, ◌↔◌, ◌+◌, ◌-◌, ◌<◌, ◌≤◌, [], ◌∷◌, length, min, IsTrue, if◌then◌else◌, map, take};
 ghost use Rattle.group_protocol.specs.declared.limits.TheConstants.{MOST_WAITING};
 ghost use Rattle.group_node.specs.Deeds.{Campaign, Press};
-ghost use Rattle.group_udp.specs.Prompts.{Gives, HasGiven, Keys};
+ghost use Rattle.group_udp.specs.Prompts.{GivesWhatCame, HasGiven, KeyboardState};
 
 use group_protocol::limits::MOST_WAITING;
 
@@ -10,11 +10,11 @@ use group_protocol::limits::MOST_WAITING;
 pub trait Keyboard {
     /// What it has left of what came to it: bytes in order, and the number of requests to campaign;
     /// and whether it is closed, so that nothing comes any more.
-    ghost keys: { Self → Keys };
+    ghost keys: { Self → KeyboardState };
 
     /// Takes in what has come since the last look.
     fn look(&mut self)
-        ensures came { Gives (keys self.old) [] (keys self.new) };
+        ensures came { GivesWhatCame (keys self.old) [] (keys self.new) };
 
     /// Returns true if a request to campaign is there.
     fn has_request(&self) -> bool

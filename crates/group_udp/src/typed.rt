@@ -1,6 +1,6 @@
 //! Typed bytes that come as datagrams.
 ghost use Rattle.std.specs.Prelude.{◌≡◌, IfOk};
-ghost use Rattle.group_udp.specs.Prompts.{Remaining, no_more, with_more};
+ghost use Rattle.group_udp.specs.Prompts.{Remaining, no_keys, with_more};
 
 use crate::keyboard::Keyboard;
 use crate::limits::{LONGEST_TYPED, MOST_TAKEN_IN, REQUESTS_APART};
@@ -42,7 +42,7 @@ impl<'a, H: Clock> TypedDatagrams<'a, H> {
         alloc: Global,
         socket: UdpSocket,
     ) -> Result<TypedDatagrams<'a, H>, AllocError>
-        ensures { IfOk result (λ typed. typed ≡ no_more) }
+        ensures { IfOk result (λ typed. typed ≡ no_keys) }
     {
         Ok(TypedDatagrams {
             clock,

@@ -1,7 +1,7 @@
 //! Typed bytes that have come, and for which there was no room yet.
 ghost use Rattle.std.specs.Prelude.{◌≡◌, ◌↔◌, ◌<◌, ◌++◌, [], ◌∷◌, drop, length, min, take, IfOk, IsTrue, if◌then◌else◌};
 ghost use Rattle.group_node.specs.Deeds.{Campaign};
-ghost use Rattle.group_udp.specs.Prompts.{before_gift, no_more};
+ghost use Rattle.group_udp.specs.Prompts.{before_gift, no_keys};
 ghost use Rattle.group_udp.specs.TypedQueue.{taken_in};
 
 use crate::limits::{LONGEST_TYPED, MOST_KEPT};
@@ -35,7 +35,7 @@ impl Model for TypedQueue {
 impl TypedQueue {
     /// Makes an empty queue. It allocates all that it needs.
     pub fn new(alloc: Global) -> Result<TypedQueue, AllocError>
-        ensures { IfOk result (λ q. q ≡ no_more) }
+        ensures { IfOk result (λ q. q ≡ no_keys) }
     {
         Ok(TypedQueue {
             bytes: HeapCircularBuffer::with_capacity(alloc, MOST_KEPT)?,

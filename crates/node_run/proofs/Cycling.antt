@@ -5,62 +5,63 @@ use Rattle.group_protocol.specs.declared.fault.NodeFault.{NodeFault}
 use Rattle.group_node.specs.States.{NodeState}
 use Rattle.group_udp.specs.declared.fault.GroupFault.{GroupFault}
 use Rattle.group_udp.specs.declared.fault.GroupFault.TheVariants as group
-use Rattle.group_udp.specs.Prompts.{Gives, Keys}
+use Rattle.group_udp.specs.Prompts.{GivesWhatCame, KeyboardState}
 use Rattle.group_wire.specs.declared.answers.Received.{Received}
 use Rattle.group_wire.specs.declared.answers.Turned.{Turned}
 use Rattle.group_wire.specs.Traffic.{Traffic}
 use Rattle.group_wire.specs.Turns.{HasHeard, HasTurned}
 use Rattle.node_run.specs.declared.answering.Answered.{Answered}
 use Rattle.node_run.specs.Answering.{HasAnsweredKeyboard, IsAnsweredBy, room_of}
-use Rattle.node_run.specs.Cycles.{Answers, EndsBeforeRelease, Hears, HearsOnce, HearsOut, Rests, TurnsOnce, moment}
+use Rattle.node_run.specs.Cycles.{AnswersKeyboard, EndsBeforeRelease, HearsTimes, HearsOnce, HearsAtRest, Rests, TurnsOnce, run_moment}
 use Rattle.node_run.specs.Going.{Around, around}
 
 -- ---- receives
 
 module _ {S : Type 0} (kind : StoreKind S) where
   -- none
-  pub heard_none : (n : NodeState S) (t : Option Traffic) → (times : ℕ) × Hears kind times n n t t
+  pub heard_none : (n : NodeState S) (t : Option Traffic) → (times : ℕ) × HearsTimes kind times n n t t
   heard_none n t = (0, (refl, refl))
 
   -- one more
-  pub heard_more : {old mid new : NodeState S} {t u v : Option Traffic} → (times : ℕ) × Hears kind times old mid t u
-      → (received : Received) × HasHeard kind mid new u v (Ok received) → (times : ℕ) × Hears kind times old new t v
+  pub heard_more : {old mid new : NodeState S} {t u v : Option Traffic} → (times : ℕ) × HearsTimes kind times old mid t u
+      → (received : Received) × HasHeard kind mid new u v (Ok received) → (times : ℕ) × HearsTimes kind times old new t v
   heard_more {mid = mid} {u = u} (times, hears) (received, last) = (suc times, (mid, u, received, hears, last))
 
   -- a last one, which is refused
-  pub heard_last : {old mid new : NodeState S} {t u v : Option Traffic} {e : GroupFault} → (times : ℕ) × Hears kind times old mid t u
-      → HearsOnce {T = Unit {0}} kind mid new u v (Err e) → HearsOut {T = Unit {0}} kind old new t v (Err e)
+  pub heard_last : {old mid new : NodeState S} {t u v : Option Traffic} {e : GroupFault} → (times : ℕ) × HearsTimes kind times old mid t u
+      → HearsOnce {T = Unit {0}} kind mid new u v (Err e) → HearsAtRest {T = Unit {0}} kind old new t v (Err e)
   heard_last {mid = mid} {u = u} (times, hears) last = (times, mid, u, hears, last)
 
 -- ---- parts of a cycle
 
 module _ {S : Type 0} (kind : StoreKind S) (written : Option (List ℕ)) where
   -- a rest
-  rested : {old new : NodeState S} {t u : Option Traffic} {keys left : Keys}
-      → (times : ℕ) × Hears kind times old new t u → Gives keys [] left
-      → Rests kind (moment old (around t keys) written) (moment new (around u left) written)
+  rested : {old new : NodeState S} {t u : Option Traffic} {keys left : KeyboardState}
+      → (times : ℕ) × HearsTimes kind times old new t u → GivesWhatCame keys [] left
+      → Rests kind (run_moment old (around t keys) written) (run_moment new (around u left) written)
   rested (times, hears) looks = record { times = times; hears = hears; looks = looks; unwritten = refl }
 
   -- one that was refused
-  pub rest_ended : {old new : NodeState S} {t u : Option Traffic} {keys left : Keys} {e : GroupFault}
-      → HearsOut {T = Unit {0}} kind old new t u (Err e) → Gives keys [] left
-      → EndsBeforeRelease kind (moment old (around t keys) written) (moment new (around u left) written) e
+  pub rest_ended : {old new : NodeState S} {t u : Option Traffic} {keys left : KeyboardState} {e : GroupFault}
+      → HearsAtRest {T = Unit {0}} kind old new t u (Err e) → GivesWhatCame keys [] left
+      → EndsBeforeRelease kind (run_moment old (around t keys) written) (run_moment new (around u left) written) e
   rest_ended {left = left} (times, mid, via, hears, last) looks = inl (record {
-    rested = moment mid (around via left) written;
+    rested = run_moment mid (around via left) written;
     rests = record { times = times; hears = hears; looks = looks; unwritten = refl };
     hears = last;
     untyped = refl;
     unwritten = refl;
   })
 
-  module _ {old mid : NodeState S} {t u : Option Traffic} {keys seen : Keys} (rest : (times : ℕ) × Hears kind times old mid t u)
-      (looks : Gives keys [] seen) where
+  module _ {old mid : NodeState S} {t u : Option Traffic} {keys seen : KeyboardState}
+      (rest : (times : ℕ) × HearsTimes kind times old mid t u)
+      (looks : GivesWhatCame keys [] seen) where
     -- the answer to the keyboard that was refused
     pub answer_ended : {new : NodeState S} {to : Around} {e : GroupFault}
         → HasAnsweredKeyboard kind mid new (around u seen) to (Err e)
-        → EndsBeforeRelease kind (moment old (around t keys) written) (moment new to written) e
+        → EndsBeforeRelease kind (run_moment old (around t keys) written) (run_moment new to written) e
     answer_ended did = inr (inl (record {
-      rested = moment mid (around u seen) written;
+      rested = run_moment mid (around u seen) written;
       rests = rested rest looks;
       did = did;
       unwritten = refl;
@@ -69,7 +70,7 @@ module _ {S : Type 0} (kind : StoreKind S) (written : Option (List ℕ)) where
     -- the answer to the keyboard
     answered : {new : NodeState S} {to : Around} {answer : Answered} → HasAnsweredKeyboard kind mid new (around u seen) to (Ok answer)
         → IsAnsweredBy (room_of mid) seen to.keyboard
-        → Answers kind answer (moment mid (around u seen) written) (moment new to written)
+        → AnswersKeyboard kind answer (run_moment mid (around u seen) written) (run_moment new to written)
     answered did all = record { did = did; all = all; unwritten = refl }
 
     module _ {typed : NodeState S} {via : Around} (answer : Answered)
@@ -78,10 +79,10 @@ module _ {S : Type 0} (kind : StoreKind S) (written : Option (List ℕ)) where
       -- a turn that was refused
       pub turn_ended : {new : NodeState S} {to : Option Traffic} {e : GroupFault} → (f : NodeFault)
           × HasTurned kind typed new via.traffic to (Err f) × (e ≡ group.Node f)
-          → EndsBeforeRelease kind (moment old (around t keys) written) (moment new (around to via.keyboard) written) e
+          → EndsBeforeRelease kind (run_moment old (around t keys) written) (run_moment new (around to via.keyboard) written) e
       turn_ended (f, turned, is) = inr (inr (record {
-        rested = moment mid (around u seen) written;
-        answered = moment typed via written;
+        rested = run_moment mid (around u seen) written;
+        answered = run_moment typed via written;
         answer = answer;
         rests = rested rest looks;
         answers = answered did all;
@@ -94,10 +95,10 @@ module _ {S : Type 0} (kind : StoreKind S) (written : Option (List ℕ)) where
 
       -- a turn
       pub turned_once : {new : NodeState S} {to : Option Traffic} {turned : Turned} → HasTurned kind typed new via.traffic to (Ok turned)
-          → TurnsOnce kind (moment old (around t keys) written) (moment new (around to via.keyboard) written)
+          → TurnsOnce kind (run_moment old (around t keys) written) (run_moment new (around to via.keyboard) written)
       turned_once {turned = turned} turn = record {
-        rested = moment mid (around u seen) written;
-        answered = moment typed via written;
+        rested = run_moment mid (around u seen) written;
+        answered = run_moment typed via written;
         answer = answer;
         turned = turned;
         rests = rested rest looks;

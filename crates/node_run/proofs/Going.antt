@@ -14,7 +14,7 @@ use Rattle.group_udp.specs.declared.fault.GroupFault.{GroupFault}
 use Rattle.group_udp.specs.declared.fault.GroupFault.TheVariants as group
 use Rattle.node_run.specs.Going.{Around, CampaignsIf, FailsAt, HasEnded, HasGone, HasGoneOn, HasReason, around, planned}
 use Rattle.group_udp.specs.Refusals.{IsCampaignRefusal}
-use Rattle.group_udp.specs.Prompts.{Gives, HasGiven, Keys, Remaining, before_gift, byte_in, campaigns_in, bytes_in, no_more, with_more}
+use Rattle.group_udp.specs.Prompts.{GivesWhatCame, HasGiven, KeyboardState, Remaining, before_gift, byte_in, campaigns_in, bytes_in, no_keys, with_more}
 use Rattle.node_run.specs.Answering.{left_once_given}
 use Rattle.node_run.specs.Prompted.{IsPrompted, turns_in}
 
@@ -26,27 +26,27 @@ same_left a b bytes requests = ap (λ x. record { bytes = x; requests = a.reques
     ∙ ap (λ r. record { bytes = b.bytes; requests = r }) requests
 
 -- nothing came
-pub with_none : (left : Remaining) → with_more no_more left ≡ left
+pub with_none : (left : Remaining) → with_more no_keys left ≡ left
 with_none left = same_left _ left (append-nil left.bytes) (omega arith)
 
 -- a keyboard to which nothing came meanwhile
-pub gives_now : {old new : Keys} {gift : List Deed} → HasGiven old gift new → Gives old gift new
+pub gives_now : {old new : KeyboardState} {gift : List Deed} → HasGiven old gift new → GivesWhatCame old gift new
 gives_now {old} {new} {gift} h = record {
-  came = no_more;
+  came = no_keys;
   whole = with_none old.left ∙ h.whole;
   none_came = λ closed. refl;
   stays = h.stays;
 }
 
 -- a keyboard that has given nothing
-pub gift_none : (keys : Keys) → Gives keys [] keys
+pub gift_none : (keys : KeyboardState) → GivesWhatCame keys [] keys
 gift_none keys = gives_now (record { whole = same_left keys.left (before_gift [] keys.left) refl (omega arith); stays = refl })
 
 -- what a keyboard has left at which nothing is given
-pub looked : {old new : Keys} (h : Gives old [] new) → new.left ≡ with_more h.came old.left
+pub looked : {old new : KeyboardState} (h : GivesWhatCame old [] new) → new.left ≡ with_more h.came old.left
 looked {old} {new} h = same_left new.left (before_gift [] new.left) refl (omega arith) ∙ sym h.whole
 
-pub not_given : {old new : Keys} → HasGiven old [] new → new.left ≡ old.left
+pub not_given : {old new : KeyboardState} → HasGiven old [] new → new.left ≡ old.left
 not_given {old} {new} h = same_left new.left (before_gift [] new.left) refl (omega arith) ∙ sym h.whole
 
 -- what came twice came at once
@@ -61,13 +61,13 @@ came_behind gift left came = same_left _ _ (append_assoc (bytes_in gift) left.by
 gift_twice : (g h : List Deed) (left : Remaining) → before_gift g (before_gift h left) ≡ before_gift (g ++ h) left
 gift_twice g h left = grind (arith, append_assoc, flat_map-append byte_in g h, filter-append, length-append)
 
-pub gift_both : {a b c : Keys} {g h : List Deed} → Gives a g b → Gives b h c → Gives a (g ++ h) c
+pub gift_both : {a b c : KeyboardState} {g h : List Deed} → GivesWhatCame a g b → GivesWhatCame b h c → GivesWhatCame a (g ++ h) c
 gift_both {a} {b} {c} {g} {h} first second = record {
   came = with_more second.came first.came;
   whole = sym (came_twice a.left first.came second.came) ∙ ap (with_more second.came) first.whole ∙ came_behind g b.left second.came
       ∙ ap (before_gift g) second.whole ∙ gift_twice g h c.left;
   none_came = λ closed. ap (λ d. with_more d first.came) (second.none_came (first.stays ∙ closed))
-      ∙ ap (with_more no_more) (first.none_came closed);
+      ∙ ap (with_more no_keys) (first.none_came closed);
   stays = second.stays ∙ first.stays;
 }
 
@@ -168,20 +168,20 @@ module _ {S : Type 0} {kind : StoreKind S} (laws : GoOn kind) where
 -- ---- one call
 
 -- these prompts, while nothing was taken from the keyboard
-pub gone_unprompted : {S : Type 0} {first : List Deed} {old new : NodeState S} {from to : Option Traffic} {keys left : Keys}
-    → HasActed old new from to first → Gives keys [] left → HasGoneOn first old new (around from keys) (around to left) 0
+pub gone_unprompted : {S : Type 0} {first : List Deed} {old new : NodeState S} {from to : Option Traffic} {keys left : KeyboardState}
+    → HasActed old new from to first → GivesWhatCame keys [] left → HasGoneOn first old new (around from keys) (around to left) 0
 gone_unprompted {first = first} acts looks =
     record { gift = []; prompts = []; given = looks; acts = rw (append-nil first) acts; prompted = prompted_none }
 
 -- a turn
-pub gone_turn : {S : Type 0} {old new : NodeState S} {from to : Option Traffic} (steps : ℕ) {keys : Keys}
+pub gone_turn : {S : Type 0} {old new : NodeState S} {from to : Option Traffic} (steps : ℕ) {keys : KeyboardState}
     → HasActed old new from to (Run steps ∷ []) → HasGoneOn [] old new (around from keys) (around to keys) 1
 gone_turn steps {keys} acts =
     record { gift = []; prompts = Run steps ∷ []; given = gift_none keys; acts = acts; prompted = prompted refl (omega arith) refl }
 
 -- these prompts without the keyboard, up to a refusal
 ended_unprompted : {S : Type 0} {kind : StoreKind S} {first : List Deed} {old new : NodeState S} {from to : Option Traffic}
-    {keys left : Keys} {e : GroupFault} → Gives keys [] left → (e ≡ group.Node Store → Fails kind old new from to first)
+    {keys left : KeyboardState} {e : GroupFault} → GivesWhatCame keys [] left → (e ≡ group.Node Store → Fails kind old new from to first)
     → (e ≢ group.Node Store → HasActed old new from to first) → HasReason e new.protocol.known
     → HasEnded kind first old new (around from keys) (around to left) 0 e
 ended_unprompted {first = first} looks fails acts due = record {
@@ -196,8 +196,8 @@ ended_unprompted {first = first} looks fails acts due = record {
 
 -- a save failed at these prompts
 pub save_ended : {S : Type 0} {kind : StoreKind S} {old new : NodeState S} {from to : Option Traffic}
-    {keys left : Keys} {e : GroupFault} {gift prompts : List Deed} → FailsAt kind old new from to prompts e
-    → Gives keys gift left
+    {keys left : KeyboardState} {e : GroupFault} {gift prompts : List Deed} → FailsAt kind old new from to prompts e
+    → GivesWhatCame keys gift left
     → IsPrompted gift 0 (e ≡ group.Node SerialSpent) prompts → HasEnded kind [] old new (around from keys) (around to left) 0 e
 save_ended {gift = gift} {prompts} h given prompted = grind (arith, gift, prompts)
 
@@ -228,7 +228,7 @@ gone_ended h other due = grind (arith, h.gift, h.prompts)
 -- the cycles after it, by their answer
 pub begun_by : {S : Type 0} {kind : StoreKind S} (laws : GoOn kind) {old mid : NodeState S} {t u : Option Traffic} {first : List Deed}
     (new : NodeState S)
-    (keys : Keys) (to : Around) (turns : ℕ) (result : Result (Unit {0}) GroupFault) → HasActed old mid t u first
+    (keys : KeyboardState) (to : Around) (turns : ℕ) (result : Result (Unit {0}) GroupFault) → HasActed old mid t u first
     → HasGone kind [] mid new (around u keys) to turns result → HasGone kind first old new (around t keys) to turns result
 begun_by laws new keys to turns (Ok x) begun h = rw zero-add at (gone_then laws (gone_unprompted begun (gift_none keys)) h)
 begun_by laws new keys to turns (Err e) begun h = inl (elim h [
@@ -237,7 +237,7 @@ begun_by laws new keys to turns (Err e) begun h = inl (elim h [
 ])
 
 -- a campaign of the plan that was refused
-pub campaign_refused : {S : Type 0} {kind : StoreKind S} {old new : NodeState S} {t u : Option Traffic} {keys : Keys}
+pub campaign_refused : {S : Type 0} {kind : StoreKind S} {old new : NodeState S} {t u : Option Traffic} {keys : KeyboardState}
     {asked : Bool} {turns : ℕ} {e : GroupFault} → CampaignsIf kind asked old new t u (Err e) → IsCampaignRefusal e
     → HasGone {T = Unit {0}} kind (planned asked) old new (around t keys) (around u keys) turns (Err e)
 campaign_refused {old = old} {new} {t} {u} {keys} {asked} {e = e} (is, fails, acts, due) refusal = elim (is_store e) [

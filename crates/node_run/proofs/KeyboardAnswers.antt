@@ -16,7 +16,7 @@ use Rattle.node_run.specs.declared.answering.Answered.{Answered}
 use Rattle.node_run.specs.declared.answering.Answered.TheVariants.{Bytes, Campaigned, CampaignRefused, Ignored}
 use Rattle.node_run.specs.Going.{Around, HasEnded, HasGoneOn, HasReason, around}
 use Rattle.node_run.specs.Answering.{HasCampaignedAsAsked, HasAnsweredKeyboard, HasTypedGiven, IsAnsweredBy, left_once_answered, left_once_given, room_of}
-use Rattle.group_udp.specs.Prompts.{Gives, HasGiven, Keys, Remaining, before_gift}
+use Rattle.group_udp.specs.Prompts.{GivesWhatCame, HasGiven, KeyboardState, Remaining, before_gift}
 use Rattle.node_run.proofs.Going.{gift_both, gives_now, looked, not_given, prompted, prompted_lost, prompted_typed, same_left, save_ended}
 
 -- where all of some bytes have room, none is left
@@ -25,13 +25,13 @@ none_left : {S : Type 0} {old new : NodeState S} {before after : List ℕ} → H
 none_left {after = after} h room = grind (arith, length-append, nil_from_length after, h.full, h.bytes, h.known)
 
 -- all that was given is typed
-pub typed_all : {S : Type 0} {old new : NodeState S} {bytes before after : List ℕ} {from : Keys} (to : Keys)
+pub typed_all : {S : Type 0} {old new : NodeState S} {bytes before after : List ℕ} {from : KeyboardState} (to : KeyboardState)
     → HasPressed old new before after (Ok tt) → ActsTyping old new before after → before ≡ bytes
     → length old.protocol.known.waiting + length bytes ≤ 256 → HasGiven from (map Press bytes) to → HasTypedGiven old new from to (Ok tt)
 typed_all to h (typed, whole, acts) same room given = let none = none_left h (rw same room) in (typed, grind (arith, append-nil), acts)
 
 -- the first of it are typed
-pub typed_some : {S : Type 0} {old new : NodeState S} {bytes before after : List ℕ} {from : Keys} (to : Keys)
+pub typed_some : {S : Type 0} {old new : NodeState S} {bytes before after : List ℕ} {from : KeyboardState} (to : KeyboardState)
     (e : NodeFault) → HasPressed old new before after (Err e) → ActsTyping old new before after → before ≡ bytes
     → old.protocol.is_stopped ≡ false → HasGiven from (map Press bytes) to → HasTypedGiven old new from to (Err (group.Node e))
 typed_some {after = after} {from} to e h (typed, whole, acts) same works given =
@@ -53,8 +53,9 @@ answered_on kind (CampaignRefused f) (given, refused) =
     record { gift = Campaign ∷ []; prompts = []; given = given; acts = refused.4; prompted = prompted refl (omega arith) refl }
 
 -- typing that spent the serials
-typing_ended : {S : Type 0} {kind : StoreKind S} {old new : NodeState S} (passed : Option Traffic) {from to : Keys} {e : GroupFault}
-    (typed lost : List ℕ) → e ≡ group.Node SerialSpent → Gives from (map Press (typed ++ lost)) to → HasReason e new.protocol.known
+typing_ended : {S : Type 0} {kind : StoreKind S} {old new : NodeState S} (passed : Option Traffic)
+    {from to : KeyboardState} {e : GroupFault}
+    (typed lost : List ℕ) → e ≡ group.Node SerialSpent → GivesWhatCame from (map Press (typed ++ lost)) to → HasReason e new.protocol.known
     → ((passed : Option Traffic) → HasActed old new passed passed (map Press typed))
     → HasEnded kind [] old new (around passed from) (around passed to) 0 e
 typing_ended passed typed lost spent given due acts =
@@ -63,8 +64,8 @@ typing_ended passed typed lost spent given due acts =
 
 -- a campaign that was asked for, by its answer
 pub asked_answered : (S : Type 0) (kind : StoreKind S) (old new : NodeState S) (from to : Option Traffic)
-    (keys left : Keys) (result : Result Answered GroupFault)
-    → HasCampaignedAsAsked kind old new from to result → Gives keys (Campaign ∷ []) left
+    (keys left : KeyboardState) (result : Result Answered GroupFault)
+    → HasCampaignedAsAsked kind old new from to result → GivesWhatCame keys (Campaign ∷ []) left
     → HasAnsweredKeyboard kind old new (around from keys) (around to left) result
 asked_answered S kind old new from to keys left (Ok Bytes) h given = absurd h
 asked_answered S kind old new from to keys left (Ok Campaigned) h given = (given, h)
@@ -75,13 +76,13 @@ asked_answered S kind old new from to keys left (Err e) (missing, h) given =
 
 -- typing, where no campaign was asked for
 pub bytes_answered : {S : Type 0} (kind : StoreKind S) {old new : NodeState S} (at : Option Traffic)
-    {keys : Keys} (left via : Keys) → HasTypedGiven old new via left (Ok tt) → Gives keys [] via
+    {keys : KeyboardState} (left via : KeyboardState) → HasTypedGiven old new via left (Ok tt) → GivesWhatCame keys [] via
     → HasAnsweredKeyboard kind old new (around at keys) (around at left) (Ok Bytes)
 bytes_answered kind at left via (typed, given, acts) none = (typed, gift_both none (gives_now given), acts at)
 
 pub bytes_refused : {S : Type 0} (kind : StoreKind S) {old new : NodeState S} (at : Option Traffic)
-    {keys : Keys} (left via : Keys) {e : GroupFault} → HasTypedGiven old new via left (Err e)
-    → Gives keys [] via → HasAnsweredKeyboard kind old new (around at keys) (around at left) (Err e)
+    {keys : KeyboardState} (left via : KeyboardState) {e : GroupFault} → HasTypedGiven old new via left (Err e)
+    → GivesWhatCame keys [] via → HasAnsweredKeyboard kind old new (around at keys) (around at left) (Err e)
 bytes_refused kind at left via (typed, lost, spent, given, due, acts) none =
     (inr spent, typing_ended at typed lost spent (gift_both none (gives_now given)) due acts)
 
@@ -100,7 +101,8 @@ none_taken room left none =
     rw not refl
 
 -- a request was there
-pub answered_request : {S : Type 0} (host : NodeState S) {old seen new : Keys} → Gives old [] seen → HasGiven seen (Campaign ∷ []) new
+pub answered_request : {S : Type 0} (host : NodeState S) {old seen new : KeyboardState} → GivesWhatCame old [] seen
+    → HasGiven seen (Campaign ∷ []) new
     → IsAnsweredBy (room_of host) old new
 answered_request host {old} {seen} {new} look given = record {
   came = look.came;
@@ -110,7 +112,7 @@ answered_request host {old} {seen} {new} look given = record {
 }
 
 -- none was there
-pub answered_bytes : {S : Type 0} (host : NodeState S) {old seen via new : Keys} → Gives old [] seen → HasGiven seen [] via
+pub answered_bytes : {S : Type 0} (host : NodeState S) {old seen via new : KeyboardState} → GivesWhatCame old [] seen → HasGiven seen [] via
     → ¬ (0 < seen.left.requests) → new.left ≡ left_once_given (room_of host) via.left → new.is_closed ≡ via.is_closed
     → IsAnsweredBy (room_of host) old new
 answered_bytes host {old} {seen} {via} {new} look given none typed same = record {

@@ -20,7 +20,7 @@ use Rattle.node_run.specs.Ends.{RunsOpened, RunsWith, keyboard_at_first}
 use Rattle.node_run.specs.Going.{Around, HasEnded, HasGone, planned}
 use Rattle.node_run.specs.Output.{AppendsOutput, NoneWaits}
 use Rattle.group_udp.specs.Refusals.{IsCampaignRefusal, write_failed}
-use Rattle.node_run.specs.Cycles.{IsRun, moment}
+use Rattle.node_run.specs.Cycles.{IsRun, run_moment}
 use Rattle.node_run.specs.Runs.{IsEarlyEnd, RunsInCycles, RunsNode, WritesReleased}
 use Rattle.node_run.proofs.Going.{is_store, prompted_if}
 use Rattle.node_run.proofs.Starting.{ran_on, ran_out}
@@ -103,7 +103,7 @@ module _ {S : Type 0} (kind : StoreKind S) (me : Me) (program : Parts)
   pub cycles_by : (result : Result (Unit {0}) GroupFault) → HasGone kind (planned plan.campaigns) first last from to plan.turns result
       → AppendsOutput plan.seen first last (IsErrOf result write_failed) before after
       → OnOk result (NoneWaits last) → IfErr result (IsEarlyEnd plan)
-      → IsRun kind plan (moment first from before) (moment last to after) result
+      → IsRun kind plan (run_moment first from before) (run_moment last to after) result
       → (run : RunsNode kind me program store last.protocol.store plan from to before after result)
       × RunsInCycles kind me program store plan from to before after run.last result
   cycles_by result h writes none others cycles =

@@ -15,7 +15,7 @@ use Rattle.group_udp.specs.declared.fault.GroupFault.TheVariants as group
 use Rattle.node_run.specs.declared.answering.Answered.{Answered}
 use Rattle.node_run.specs.declared.answering.Answered.TheVariants.{Bytes, Campaigned, CampaignRefused, Ignored}
 use Rattle.node_run.specs.Going.{Around, FailsAt, HasEnded, HasReason}
-use Rattle.group_udp.specs.Prompts.{Gives, HasGiven, Keys, Remaining, no_more, with_more}
+use Rattle.group_udp.specs.Prompts.{GivesWhatCame, HasGiven, KeyboardState, Remaining, no_keys, with_more}
 use Rattle.group_udp.specs.Refusals.{IsCycleRefusal}
 
 -- A node that leads without a gap: each vote of its record is at a place below its known front.
@@ -24,7 +24,7 @@ LeadsWithoutGap n = (is_leading n.proposer ≡ true) × All (λ v. v.place < fro
 
 -- Typing of the bytes that a keyboard gave. If the serials are spent, the last of them are lost.
 -- Forbids: a byte that is typed twice, or that the keyboard did not give.
-abbrev pub HasTypedGiven : {S : Type 0} → NodeState S → NodeState S → Keys → Keys
+abbrev pub HasTypedGiven : {S : Type 0} → NodeState S → NodeState S → KeyboardState → KeyboardState
     → Result (Unit {0}) GroupFault → Type 0
 HasTypedGiven old new from to (Ok x) =
     (typed : List ℕ) × HasGiven from (map Press typed) to
@@ -49,10 +49,10 @@ left_once_answered room left =
 -- A keyboard that was looked at, and then answered by a node with this room for keys: by a request
 -- that is there, or else by all bytes for which there is room.
 -- Forbids: a request or a byte that is passed over, though it has come.
-pub record IsAnsweredBy (room : ℕ) (old new : Keys) : Type 0 where
+pub record IsAnsweredBy (room : ℕ) (old new : KeyboardState) : Type 0 where
   pub came : Remaining
   pub left : new.left ≡ left_once_answered room (with_more came old.left)
-  pub none_came : old.is_closed ≡ true → came ≡ no_more
+  pub none_came : old.is_closed ≡ true → came ≡ no_keys
   pub stays : new.is_closed ≡ old.is_closed
 
 -- How many keys a node has room for.
@@ -84,10 +84,10 @@ HasCampaignedAsAsked kind old new from to (Err e) =
 abbrev pub HasAnsweredKeyboard : {S : Type 0} → StoreKind S → NodeState S → NodeState S
     → Around → Around → Result Answered GroupFault → Type 0
 HasAnsweredKeyboard kind old new from to (Ok Bytes) =
-    (typed : List ℕ) × Gives from.keyboard (map Press typed) to.keyboard
+    (typed : List ℕ) × GivesWhatCame from.keyboard (map Press typed) to.keyboard
     × HasActed old new from.traffic to.traffic (map Press typed)
 HasAnsweredKeyboard kind old new from to (Ok answer) =
-    Gives from.keyboard (Campaign ∷ []) to.keyboard
+    GivesWhatCame from.keyboard (Campaign ∷ []) to.keyboard
     × HasCampaignedAsAsked kind old new from.traffic to.traffic (Ok answer)
 HasAnsweredKeyboard kind old new from to (Err e) =
     IsCycleRefusal e × HasEnded kind [] old new from to 0 e

@@ -5,7 +5,7 @@ use Rattle.group_protocol.specs.declared.fault.NodeFault.{NodeFault}
 use Rattle.group_node.specs.States.{NodeState}
 use Rattle.group_udp.specs.declared.fault.GroupFault.{GroupFault}
 use Rattle.group_udp.specs.declared.fault.GroupFault.TheVariants as group
-use Rattle.group_udp.specs.Prompts.{Gives}
+use Rattle.group_udp.specs.Prompts.{GivesWhatCame}
 use Rattle.group_wire.specs.declared.answers.Received.{Received}
 use Rattle.group_wire.specs.declared.answers.Turned.{Turned}
 use Rattle.group_wire.specs.Traffic.{Traffic}
@@ -17,25 +17,25 @@ use Rattle.node_run.specs.Going.{Around, CampaignsIf}
 use Rattle.node_run.specs.Releases.{HasReleased}
 
 -- A moment of a run: the node, what is around it, and what its writer holds.
-pub record Moment (S : Type 0) : Type 0 where
+pub record RunMoment (S : Type 0) : Type 0 where
   pub node : NodeState S
   pub around : Around
   pub written : Option (List ℕ)
 
 -- These three, put together.
-abbrev pub moment : {S : Type 0} → NodeState S → Around → Option (List ℕ) → Moment S
-moment node around written = record { node = node; around = around; written = written }
+abbrev pub run_moment : {S : Type 0} → NodeState S → Around → Option (List ℕ) → RunMoment S
+run_moment node around written = record { node = node; around = around; written = written }
 
 -- ---- the parts of a cycle
 
 -- So many receives, one after the other, and nothing else: each time a message was heard, a
 -- datagram was dropped or lost, or nothing came.
-abbrev pub Hears : {S : Type 0} → StoreKind S → ℕ → NodeState S → NodeState S → Option Traffic
+abbrev pub HearsTimes : {S : Type 0} → StoreKind S → ℕ → NodeState S → NodeState S → Option Traffic
     → Option Traffic → Type 0
-Hears kind zero old new from to = (new ≡ old) × (to ≡ from)
-Hears {S} kind (suc n) old new from to =
+HearsTimes kind zero old new from to = (new ≡ old) × (to ≡ from)
+HearsTimes {S} kind (suc n) old new from to =
     (mid : NodeState S) × (via : Option Traffic) × (received : Received)
-    × Hears kind n old mid from via × HasHeard kind mid new via to (Ok received)
+    × HearsTimes kind n old mid from via × HasHeard kind mid new via to (Ok received)
 
 -- One receive of a rest, by its answer.
 abbrev pub HearsOnce : {S T : Type 0} → StoreKind S → NodeState S → NodeState S → Option Traffic
@@ -46,38 +46,39 @@ HearsOnce kind old new from to (Err e) =
     (fault : NodeFault) × HasHeard kind old new from to (Err fault) × (e ≡ group.Node fault)
 
 -- All receives of a rest, by its answer.
-abbrev pub HearsOut : {S T : Type 0} → StoreKind S → NodeState S → NodeState S → Option Traffic
+abbrev pub HearsAtRest : {S T : Type 0} → StoreKind S → NodeState S → NodeState S → Option Traffic
     → Option Traffic → Result T GroupFault → Type 0
-HearsOut kind old new from to (Ok x) = (times : ℕ) × Hears kind times old new from to
-HearsOut {S} {T} kind old new from to (Err e) =
-    (times : ℕ) × (mid : NodeState S) × (via : Option Traffic) × Hears kind times old mid from via
+HearsAtRest kind old new from to (Ok x) = (times : ℕ) × HearsTimes kind times old new from to
+HearsAtRest {S} {T} kind old new from to (Err e) =
+    (times : ℕ) × (mid : NodeState S) × (via : Option Traffic)
+    × HearsTimes kind times old mid from via
     × HearsOnce {T = T} kind mid new via to (Err e)
 
 -- A rest: the node hears what comes. Something may come to its keyboard, and nothing is taken from
 -- that.
-pub record Rests {S : Type 0} (kind : StoreKind S) (a b : Moment S) : Type 0 where
+pub record Rests {S : Type 0} (kind : StoreKind S) (a b : RunMoment S) : Type 0 where
   pub times : ℕ
-  pub hears : Hears kind times a.node b.node a.around.traffic b.around.traffic
-  pub looks : Gives a.around.keyboard [] b.around.keyboard
+  pub hears : HearsTimes kind times a.node b.node a.around.traffic b.around.traffic
+  pub looks : GivesWhatCame a.around.keyboard [] b.around.keyboard
   pub unwritten : b.written ≡ a.written
 
 -- The keyboard is looked at and answered: the node campaigns, or types all bytes for which it has
 -- room.
-pub record Answers {S : Type 0} (kind : StoreKind S) (answer : Answered) (a b : Moment S)
+pub record AnswersKeyboard {S : Type 0} (kind : StoreKind S) (answer : Answered) (a b : RunMoment S)
     : Type 0 where
   pub did : HasAnsweredKeyboard kind a.node b.node a.around b.around (Ok answer)
   pub all : IsAnsweredBy (room_of a.node) a.around.keyboard b.around.keyboard
   pub unwritten : b.written ≡ a.written
 
 -- A turn: the node hears, ticks, and runs its machine.
-pub record TakesTurn {S : Type 0} (kind : StoreKind S) (turned : Turned) (a b : Moment S)
+pub record TakesTurn {S : Type 0} (kind : StoreKind S) (turned : Turned) (a b : RunMoment S)
     : Type 0 where
   pub did : HasTurned kind a.node b.node a.around.traffic b.around.traffic (Ok turned)
   pub untyped : b.around.keyboard ≡ a.around.keyboard
   pub unwritten : b.written ≡ a.written
 
 -- A release of output, with its answer.
-pub record Releases {S : Type 0} (seen : ℕ) (a b : Moment S)
+pub record ReleasesOutput {S : Type 0} (seen : ℕ) (a b : RunMoment S)
     (result : Result (Unit {0}) GroupFault) : Type 0 where
   pub did : HasReleased seen (record { node = a.node; written = a.written })
       (record { node = b.node; written = b.written }) result
@@ -86,33 +87,33 @@ pub record Releases {S : Type 0} (seen : ℕ) (a b : Moment S)
 -- ---- a cycle, and many
 
 -- A cycle up to its release: a rest, the keyboard, and a turn.
-pub record TurnsOnce {S : Type 0} (kind : StoreKind S) (a b : Moment S) : Type 0 where
-  pub rested : Moment S
-  pub answered : Moment S
+pub record TurnsOnce {S : Type 0} (kind : StoreKind S) (a b : RunMoment S) : Type 0 where
+  pub rested : RunMoment S
+  pub answered : RunMoment S
   pub answer : Answered
   pub turned : Turned
   pub rests : Rests kind a rested
-  pub answers : Answers kind answer rested answered
+  pub answers : AnswersKeyboard kind answer rested answered
   pub turns : TakesTurn kind turned answered b
 
 -- A cycle: then all output that waits is released, and written from number `seen` on.
-pub record IsCycle {S : Type 0} (kind : StoreKind S) (seen : ℕ) (a b : Moment S) : Type 0 where
-  pub mid : Moment S
+pub record IsCycle {S : Type 0} (kind : StoreKind S) (seen : ℕ) (a b : RunMoment S) : Type 0 where
+  pub mid : RunMoment S
   pub turns : TurnsOnce kind a mid
-  pub releases : Releases seen mid b (Ok tt)
+  pub releases : ReleasesOutput seen mid b (Ok tt)
 
 -- So many cycles, one after the other.
-abbrev pub AreCycles : {S : Type 0} → StoreKind S → ℕ → ℕ → Moment S → Moment S → Type 0
+abbrev pub AreCycles : {S : Type 0} → StoreKind S → ℕ → ℕ → RunMoment S → RunMoment S → Type 0
 AreCycles kind seen zero a b = b ≡ a
 AreCycles {S} kind seen (suc n) a b =
-    (mid : Moment S) × AreCycles kind seen n a mid × IsCycle kind seen mid b
+    (mid : RunMoment S) × AreCycles kind seen n a mid × IsCycle kind seen mid b
 
 -- ---- how a run ends early
 
 -- A rest that is refused: a save fails at what it hears.
-pub record EndsAtRest {S : Type 0} (kind : StoreKind S) (a b : Moment S) (e : GroupFault)
+pub record EndsAtRest {S : Type 0} (kind : StoreKind S) (a b : RunMoment S) (e : GroupFault)
     : Type 0 where
-  pub rested : Moment S
+  pub rested : RunMoment S
   pub rests : Rests kind a rested
   pub hears : HearsOnce {T = Unit {0}} kind rested.node b.node rested.around.traffic
       b.around.traffic (Err e)
@@ -120,21 +121,21 @@ pub record EndsAtRest {S : Type 0} (kind : StoreKind S) (a b : Moment S) (e : Gr
   pub unwritten : b.written ≡ rested.written
 
 -- The answer to the keyboard is refused.
-pub record EndsAtKeyboard {S : Type 0} (kind : StoreKind S) (a b : Moment S) (e : GroupFault)
+pub record EndsAtKeyboard {S : Type 0} (kind : StoreKind S) (a b : RunMoment S) (e : GroupFault)
     : Type 0 where
-  pub rested : Moment S
+  pub rested : RunMoment S
   pub rests : Rests kind a rested
   pub did : HasAnsweredKeyboard kind rested.node b.node rested.around b.around (Err e)
   pub unwritten : b.written ≡ rested.written
 
 -- The turn is refused: a save fails at what it hears.
-pub record EndsAtTurn {S : Type 0} (kind : StoreKind S) (a b : Moment S) (e : GroupFault)
+pub record EndsAtTurn {S : Type 0} (kind : StoreKind S) (a b : RunMoment S) (e : GroupFault)
     : Type 0 where
-  pub rested : Moment S
-  pub answered : Moment S
+  pub rested : RunMoment S
+  pub answered : RunMoment S
   pub answer : Answered
   pub rests : Rests kind a rested
-  pub answers : Answers kind answer rested answered
+  pub answers : AnswersKeyboard kind answer rested answered
   pub fault : NodeFault
   pub did : HasTurned kind answered.node b.node answered.around.traffic b.around.traffic (Err fault)
   pub is : e ≡ group.Node fault
@@ -142,42 +143,43 @@ pub record EndsAtTurn {S : Type 0} (kind : StoreKind S) (a b : Moment S) (e : Gr
   pub unwritten : b.written ≡ answered.written
 
 -- A cycle that is refused before its release.
-abbrev pub EndsBeforeRelease : {S : Type 0} → StoreKind S → Moment S → Moment S → GroupFault
+abbrev pub EndsBeforeRelease : {S : Type 0} → StoreKind S → RunMoment S → RunMoment S → GroupFault
     → Type 0
 EndsBeforeRelease kind a b e =
     EndsAtRest kind a b e ⊎ (EndsAtKeyboard kind a b e ⊎ EndsAtTurn kind a b e)
 
 -- A cycle up to its release, by its answer.
-abbrev pub TurnsOrEnds : {S T : Type 0} → StoreKind S → Moment S → Moment S → Result T GroupFault
-    → Type 0
+abbrev pub TurnsOrEnds : {S T : Type 0} → StoreKind S → RunMoment S → RunMoment S
+    → Result T GroupFault → Type 0
 TurnsOrEnds kind a b (Ok x) = TurnsOnce kind a b
 TurnsOrEnds kind a b (Err e) = EndsBeforeRelease kind a b e
 
 -- A cycle that is refused: so, or since a write fails.
-abbrev pub EndsInCycle : {S : Type 0} → StoreKind S → ℕ → Moment S → Moment S → GroupFault → Type 0
+abbrev pub EndsInCycle : {S : Type 0} → StoreKind S → ℕ → RunMoment S → RunMoment S → GroupFault
+    → Type 0
 EndsInCycle {S} kind seen a b e =
     EndsBeforeRelease kind a b e
-    ⊎ ((mid : Moment S) × TurnsOnce kind a mid × Releases seen mid b (Err e))
+    ⊎ ((mid : RunMoment S) × TurnsOnce kind a mid × ReleasesOutput seen mid b (Err e))
 
 -- A cycle by its answer.
-abbrev pub DoesCycle : {S T : Type 0} → StoreKind S → ℕ → Moment S → Moment S
+abbrev pub DoesCycle : {S T : Type 0} → StoreKind S → ℕ → RunMoment S → RunMoment S
     → Result T GroupFault → Type 0
 DoesCycle kind seen a b (Ok x) = IsCycle kind seen a b
 DoesCycle kind seen a b (Err e) = EndsInCycle kind seen a b e
 
 -- The cycles of a run by its answer: all of `turns` at `Ok`, or fewer, and one that was refused.
 -- Forbids: a run that ends early in any other way.
-abbrev pub DoesCycles : {S : Type 0} → StoreKind S → ℕ → ℕ → Moment S → Moment S
+abbrev pub DoesCycles : {S : Type 0} → StoreKind S → ℕ → ℕ → RunMoment S → RunMoment S
     → Result (Unit {0}) GroupFault → Type 0
 DoesCycles kind seen turns a b (Ok x) = AreCycles kind seen turns a b
 DoesCycles {S} kind seen turns a b (Err e) =
-    (made : ℕ) × (mid : Moment S) × (made < turns) × AreCycles kind seen made a mid
+    (made : ℕ) × (mid : RunMoment S) × (made < turns) × AreCycles kind seen made a mid
     × EndsInCycle kind seen mid b e
 
 -- ---- a run
 
 -- A campaign before the first cycle, if the plan has one, with its answer.
-pub record Begins {S : Type 0} (kind : StoreKind S) (plan : RunPlan) (a b : Moment S)
+pub record Begins {S : Type 0} (kind : StoreKind S) (plan : RunPlan) (a b : RunMoment S)
     (result : Result (Unit {0}) GroupFault) : Type 0 where
   pub did : CampaignsIf kind plan.campaigns a.node b.node a.around.traffic b.around.traffic result
   pub untyped : b.around.keyboard ≡ a.around.keyboard
@@ -185,9 +187,9 @@ pub record Begins {S : Type 0} (kind : StoreKind S) (plan : RunPlan) (a b : Mome
 
 -- A run of this plan from the start of its node on: the campaign of the plan is refused; or it is
 -- not, and then there are the cycles.
-abbrev pub IsRun : {S : Type 0} → StoreKind S → RunPlan → Moment S → Moment S
+abbrev pub IsRun : {S : Type 0} → StoreKind S → RunPlan → RunMoment S → RunMoment S
     → Result (Unit {0}) GroupFault → Type 0
 IsRun {S} kind plan a b result =
     ((e : GroupFault) × (result ≡ Err e) × Begins kind plan a b (Err e))
-    ⊎ ((mid : Moment S) × Begins kind plan a mid (Ok tt)
+    ⊎ ((mid : RunMoment S) × Begins kind plan a mid (Ok tt)
     × DoesCycles kind plan.seen plan.turns mid b result)

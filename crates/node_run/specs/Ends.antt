@@ -16,7 +16,7 @@ use Rattle.group_udp.specs.declared.fault.GroupFault.{GroupFault}
 use Rattle.group_udp.specs.declared.fault.GroupFault.TheVariants as group
 use Rattle.node_run.specs.declared.node.NodePlan.{NodePlan}
 use Rattle.node_run.specs.Going.{around}
-use Rattle.group_udp.specs.Prompts.{Keys, no_more}
+use Rattle.group_udp.specs.Prompts.{KeyboardState, no_keys}
 use Rattle.group_udp.specs.Refusals.{IsOpenRefusal, no_memory}
 use Rattle.node_run.specs.Runs.{RunsOrRefuses}
 
@@ -28,7 +28,7 @@ RefusesUnwritten why before after result =
 
 -- A run over a store in a file, whose wire is a socket: what passes over it is unknown. `from` and
 -- `to` are the keyboard before and after. Or memory is missing.
-abbrev pub RunsOverFile : Me → Parts → NodePlan → Keys → Keys
+abbrev pub RunsOverFile : Me → Parts → NodePlan → KeyboardState → KeyboardState
     → Option (List ℕ) → Option (List ℕ) → Result (Unit {0}) GroupFault → Type 0
 RunsOverFile me program plan from to before after result =
     RefusesUnwritten (λ e. e ≡ no_memory) before after result
@@ -38,18 +38,18 @@ RunsOverFile me program plan from to before after result =
 
 -- Such a run once its sockets are open, with this keyboard; or none, since a socket or memory is
 -- missing.
-abbrev pub RunsWith : Me → Parts → NodePlan → Keys → Option (List ℕ)
+abbrev pub RunsWith : Me → Parts → NodePlan → KeyboardState → Option (List ℕ)
     → Option (List ℕ) → Result (Unit {0}) GroupFault → Type 0
 RunsWith me program plan keys before after result =
     RefusesUnwritten IsOpenRefusal before after result
-    ⊎ ((to : Keys) × RunsOverFile me program plan keys to before after result)
+    ⊎ ((to : KeyboardState) × RunsOverFile me program plan keys to before after result)
 
 -- The keyboard of a plan at first: it has the text, and nothing more comes; or it has nothing, and
 -- datagrams will bring something.
-abbrev pub keyboard_at_first : Option SocketAddr → List ℕ → Keys
+abbrev pub keyboard_at_first : Option SocketAddr → List ℕ → KeyboardState
 keyboard_at_first None text =
     record { left = record { bytes = text; requests = 0 }; is_closed = true }
-keyboard_at_first (Some address) text = record { left = no_more; is_closed = false }
+keyboard_at_first (Some address) text = record { left = no_keys; is_closed = false }
 
 -- Such a run with the keyboard of the plan.
 abbrev pub RunsOpened : Me → Parts → NodePlan → List ℕ → Option (List ℕ) → Option (List ℕ)

@@ -12,22 +12,23 @@ use Rattle.group_wire.specs.Traffic.{Traffic}
 use Rattle.group_udp.specs.declared.fault.GroupFault.{GroupFault}
 use Rattle.group_udp.specs.declared.fault.GroupFault.TheVariants as group
 use Rattle.group_udp.specs.Refusals.{IsCampaignRefusal}
-use Rattle.group_udp.specs.Prompts.{Gives, Keys}
+use Rattle.group_udp.specs.Prompts.{GivesWhatCame, KeyboardState}
 use Rattle.node_run.specs.Prompted.{IsPrompted}
 use Rattle.node_run.specs.declared.endpoints.Endpoints.{Endpoints}
 
 -- What is around a node: what has passed over its wire, where that is known, and its keyboard.
 pub record Around : Type 0 where
   pub traffic : Option Traffic
-  pub keyboard : Keys
+  pub keyboard : KeyboardState
 
 -- These two, put together.
-abbrev pub around : Option Traffic → Keys → Around
+abbrev pub around : Option Traffic → KeyboardState → Around
 around traffic keyboard = record { traffic = traffic; keyboard = keyboard }
 
 -- What is around a node by its wire and its keyboard. The two functions tell what has passed over a
 -- wire, and what a keyboard has left.
-abbrev pub around_of : {T K : Type 0} → (T → Option Traffic) → (K → Keys) → Endpoints T K → Around
+abbrev pub around_of : {T K : Type 0} → (T → Option Traffic) → (K → KeyboardState) → Endpoints T K
+    → Around
 around_of traffic_of keys_of endpoints =
     around (traffic_of endpoints.wire) (keys_of endpoints.keyboard)
 
@@ -50,7 +51,7 @@ pub record HasGoneOn {S : Type 0} (first : List Deed) (old new : NodeState S) (f
     (turns : ℕ) : Type 0 where
   pub gift : List Deed
   pub prompts : List Deed
-  pub given : Gives from.keyboard gift to.keyboard
+  pub given : GivesWhatCame from.keyboard gift to.keyboard
   pub acts : HasActed old new from.traffic to.traffic (first ++ prompts)
   pub prompted : IsPrompted gift turns ⊥ prompts
 
@@ -59,7 +60,7 @@ pub record HasEnded {S : Type 0} (kind : StoreKind S) (first : List Deed) (old n
     (from to : Around) (turns : ℕ) (e : GroupFault) : Type 0 where
   pub gift : List Deed
   pub prompts : List Deed
-  pub given : Gives from.keyboard gift to.keyboard
+  pub given : GivesWhatCame from.keyboard gift to.keyboard
   pub fails : e ≡ group.Node Store
       → Fails kind old new from.traffic to.traffic (first ++ prompts)
   pub acts : e ≢ group.Node Store → HasActed old new from.traffic to.traffic (first ++ prompts)

@@ -16,10 +16,10 @@ use Rattle.group_wire.specs.Starts.{HasStarted}
 use Rattle.group_udp.specs.declared.fault.GroupFault.{GroupFault}
 use Rattle.group_udp.specs.declared.fault.GroupFault.TheVariants as group
 use Rattle.node_run.specs.declared.cycles.RunPlan.{RunPlan}
-use Rattle.node_run.specs.Cycles.{IsRun, moment}
+use Rattle.node_run.specs.Cycles.{IsRun, run_moment}
 use Rattle.node_run.specs.Going.{Around, HasReason, planned}
 use Rattle.node_run.specs.Output.{released_from}
-use Rattle.group_udp.specs.Prompts.{Gives}
+use Rattle.group_udp.specs.Prompts.{GivesWhatCame}
 use Rattle.node_run.specs.Prompted.{IsPrompted}
 use Rattle.group_udp.specs.Refusals.{IsCampaignRefusal, IsWrittenCycleRefusal, write_failed}
 
@@ -62,7 +62,7 @@ pub record RunsNode {S : Type 0} (kind : StoreKind S) (me : Me) (program : Parts
   pub begun : (first ≡ planned plan.campaigns) ⊎ ((first ≡ []) × (turns ≡ 0)
       × IsErrAnd result (λ e. (e ≢ group.Node Store) × IsCampaignRefusal e))
   pub gift : List Deed
-  pub given : Gives from.keyboard gift to.keyboard
+  pub given : GivesWhatCame from.keyboard gift to.keyboard
   pub follows : IsPrompted gift turns (IsErrOf result (group.Node SerialSpent)) prompts
   pub few : turns ≤ plan.turns
   pub all : OnOk result (turns ≡ plan.turns)
@@ -81,7 +81,7 @@ pub record RunsInCycles {S : Type 0} (kind : StoreKind S) (me : Me) (program : P
   pub start : NodeState S
   pub final : NodeState S
   pub starts : HasStarted kind me program store (Ok start)
-  pub run : IsRun kind plan (moment start from before) (moment final to after) result
+  pub run : IsRun kind plan (run_moment start from before) (run_moment final to after) result
   pub is_last : last ≡ running final
 
 -- A start that is refused: nothing passes, nothing is typed, and nothing is written.

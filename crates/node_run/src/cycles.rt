@@ -4,7 +4,7 @@ ghost use Rattle.paxos_acceptor.specs.Stores.{CountsIf};
 ghost use Rattle.pcode_file.specs.Parts.{Parts};
 ghost use Rattle.group_node.specs.Output.{no_progress};
 ghost use Rattle.group_wire.specs.Turns.{SameReleased};
-ghost use Rattle.node_run.specs.Cycles.{DoesCycle, DoesCycles, IsRun, TurnsOrEnds, moment};
+ghost use Rattle.node_run.specs.Cycles.{DoesCycle, DoesCycles, IsRun, TurnsOrEnds, run_moment};
 ghost use Rattle.node_run.specs.Going.{CampaignsIf, HasGone, around_of, planned};
 ghost use Rattle.node_run.specs.Output.{AppendsOutput, NoneWaits, SameProgram};
 ghost use Rattle.node_run.specs.Runs.{IsEarlyEnd};
@@ -83,8 +83,8 @@ fn rest_and_turn<H: Clock, T: CountedWire, K: Keyboard, S: Store, E: Write>(
     ensures program { SameProgram host.old host.new }
     ensures stays { SameReleased host.old host.new }
     ensures turns { (written : Option (List ℕ)) → TurnsOrEnds S.kind
-        (moment host.old (around_of T.traffic K.keys endpoints.old) written)
-        (moment host.new (around_of T.traffic K.keys endpoints.new) written) result }
+        (run_moment host.old (around_of T.traffic K.keys endpoints.old) written)
+        (run_moment host.new (around_of T.traffic K.keys endpoints.new) written) result }
     ensures others { IfErr result IsCycleRefusal }
 {
     deeds_go_on::<S>();
@@ -119,8 +119,8 @@ fn cycle<H: Clock, T: CountedWire, K: Keyboard, S: Store, W: ByteWriter, E: Writ
         (W.contents writer.old) (W.contents writer.new) }
     ensures none_waits { OnOk result (NoneWaits host.new) }
     ensures cycle { DoesCycle S.kind seen
-        (moment host.old (around_of T.traffic K.keys endpoints.old) (W.contents writer.old))
-        (moment host.new (around_of T.traffic K.keys endpoints.new) (W.contents writer.new))
+        (run_moment host.old (around_of T.traffic K.keys endpoints.old) (W.contents writer.old))
+        (run_moment host.new (around_of T.traffic K.keys endpoints.new) (W.contents writer.new))
         result }
     ensures faults { CountsIf (IsErrOf result write_failed) (W.write_faults writer.old)
         (W.write_faults writer.new) }
@@ -154,8 +154,8 @@ fn play<H: Clock, T: CountedWire, K: Keyboard, S: Store, W: ByteWriter, E: Write
         (W.contents writer.old) (W.contents writer.new) }
     ensures none_waits { NoneWaits host.old → OnOk result (NoneWaits host.new) }
     ensures cycles { DoesCycles S.kind plan.seen plan.turns
-        (moment host.old (around_of T.traffic K.keys endpoints.old) (W.contents writer.old))
-        (moment host.new (around_of T.traffic K.keys endpoints.new) (W.contents writer.new))
+        (run_moment host.old (around_of T.traffic K.keys endpoints.old) (W.contents writer.old))
+        (run_moment host.new (around_of T.traffic K.keys endpoints.new) (W.contents writer.new))
         result }
     ensures faults { CountsIf (IsErrOf result write_failed) (W.write_faults writer.old)
         (W.write_faults writer.new) }
@@ -209,8 +209,8 @@ pub fn campaign_and_play<H: Clock, T: CountedWire, K: Keyboard, S: Store, W: Byt
     ensures none_waits { (p : Parts) → host.old.progress ≡ no_progress p
         → OnOk result (NoneWaits host.new) }
     ensures run { IsRun S.kind plan
-        (moment host.old (around_of T.traffic K.keys endpoints.old) (W.contents writer.old))
-        (moment host.new (around_of T.traffic K.keys endpoints.new) (W.contents writer.new))
+        (run_moment host.old (around_of T.traffic K.keys endpoints.old) (W.contents writer.old))
+        (run_moment host.new (around_of T.traffic K.keys endpoints.new) (W.contents writer.new))
         result }
     ensures faults { CountsIf (IsErrOf result write_failed) (W.write_faults writer.old)
         (W.write_faults writer.new) }

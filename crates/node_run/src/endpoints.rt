@@ -1,6 +1,6 @@
 //! The wire and the keyboard of a node.
 ghost use Rattle.std.specs.Prelude.{◌≡◌, IfErr, IfOk};
-ghost use Rattle.group_udp.specs.Prompts.{no_more};
+ghost use Rattle.group_udp.specs.Prompts.{no_keys};
 ghost use Rattle.group_udp.specs.Refusals.{IsOpenRefusal, IsSocketRefusal};
 
 use crate::node::NodePlan;
@@ -41,7 +41,7 @@ pub fn open_keyboard<'a, H: Net + Clock + AllocGlobal, E: Write>(
     watch: &Watch,
     log: &mut Log<'_, H, E>,
 ) -> Result<TypedDatagrams<'a, H>, GroupFault>
-    ensures fresh { IfOk result (λ typed. typed ≡ no_more) }
+    ensures fresh { IfOk result (λ typed. typed ≡ no_keys) }
     ensures others { IfErr result IsOpenRefusal }
 {
     let mut socket = bind_noted(rt, address, log)?;

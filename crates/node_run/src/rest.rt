@@ -7,8 +7,8 @@ ghost use Rattle.group_wire.specs.Doings.{HasActed};
 ghost use Rattle.group_wire.specs.Turns.{HasTurned, SameReleased};
 ghost use Rattle.group_protocol.specs.declared.fault.NodeFault.{NodeFault};
 ghost use Rattle.group_udp.specs.declared.fault.GroupFault.TheVariants as group;
-ghost use Rattle.group_udp.specs.Prompts.{Gives};
-ghost use Rattle.node_run.specs.Cycles.{HearsOnce, HearsOut};
+ghost use Rattle.group_udp.specs.Prompts.{GivesWhatCame};
+ghost use Rattle.node_run.specs.Cycles.{HearsOnce, HearsAtRest};
 ghost use Rattle.node_run.specs.Going.{FailsAt, HasRested};
 ghost use Rattle.node_run.specs.Output.{SameProgram};
 
@@ -32,7 +32,8 @@ fn is_calling<K: Keyboard>(keyboard: &K, waiting: usize) -> bool {
 /// has taken its time, or the keyboard calls.
 fn wait<T: RestingWire, K: Keyboard>(endpoints: &mut Endpoints<T, K>, waiting: usize) -> bool
     ensures passed { T.traffic endpoints.new.wire ≡ T.traffic endpoints.old.wire }
-    ensures looks { Gives (K.keys endpoints.old.keyboard) [] (K.keys endpoints.new.keyboard) }
+    ensures looks { GivesWhatCame (K.keys endpoints.old.keyboard) []
+        (K.keys endpoints.new.keyboard) }
 {
     match endpoints.wire.wait() {
         Waited::Over => true,
@@ -68,7 +69,8 @@ fn rest_once<T: RestingWire, K: Keyboard, S: Store>(
         (T.traffic endpoints.new.wire) result }
     ensures hears { HearsOnce S.kind host.old host.new (T.traffic endpoints.old.wire)
         (T.traffic endpoints.new.wire) result }
-    ensures looks { Gives (K.keys endpoints.old.keyboard) [] (K.keys endpoints.new.keyboard) }
+    ensures looks { GivesWhatCame (K.keys endpoints.old.keyboard) []
+        (K.keys endpoints.new.keyboard) }
     ensures stays { SameReleased host.old host.new }
     ensures progress { host.new.progress ≡ host.old.progress }
 {
@@ -94,9 +96,10 @@ fn rest<T: RestingWire, K: Keyboard, S: Store>(
     ensures works { OnOk result (host.new.protocol.is_stopped ≡ false) }
     ensures rests { HasRested S.kind host.old host.new (T.traffic endpoints.old.wire)
         (T.traffic endpoints.new.wire) result }
-    ensures hears { HearsOut S.kind host.old host.new (T.traffic endpoints.old.wire)
+    ensures hears { HearsAtRest S.kind host.old host.new (T.traffic endpoints.old.wire)
         (T.traffic endpoints.new.wire) result }
-    ensures looks { Gives (K.keys endpoints.old.keyboard) [] (K.keys endpoints.new.keyboard) }
+    ensures looks { GivesWhatCame (K.keys endpoints.old.keyboard) []
+        (K.keys endpoints.new.keyboard) }
     ensures stays { SameReleased host.old host.new }
     ensures progress { host.new.progress ≡ host.old.progress }
 {
@@ -125,9 +128,10 @@ pub fn rest_unless_busy<T: RestingWire, K: Keyboard, S: Store>(
         × (endpoints.new ≡ endpoints.old) }
     ensures rests { HasRested S.kind host.old host.new (T.traffic endpoints.old.wire)
         (T.traffic endpoints.new.wire) result }
-    ensures hears { HearsOut S.kind host.old host.new (T.traffic endpoints.old.wire)
+    ensures hears { HearsAtRest S.kind host.old host.new (T.traffic endpoints.old.wire)
         (T.traffic endpoints.new.wire) result }
-    ensures looks { Gives (K.keys endpoints.old.keyboard) [] (K.keys endpoints.new.keyboard) }
+    ensures looks { GivesWhatCame (K.keys endpoints.old.keyboard) []
+        (K.keys endpoints.new.keyboard) }
     ensures stays { SameReleased host.old host.new }
     ensures progress { host.new.progress ≡ host.old.progress }
 {

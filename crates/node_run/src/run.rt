@@ -2,7 +2,7 @@
 //! and sockets of the system.
 ghost use Rattle.std.specs.Prelude.{◌≡◌, ℕ, true, false, IfErr, IsErrOf, List, None, Option};
 ghost use Rattle.paxos_acceptor.specs.Stores.{CountsIf};
-ghost use Rattle.group_udp.specs.Prompts.{no_more};
+ghost use Rattle.group_udp.specs.Prompts.{no_keys};
 ghost use Rattle.paxos_disk.specs.Disks.{MayFind};
 ghost use Rattle.paxos_disk.specs.Found.{disk_kind};
 ghost use Rattle.paxos_disk.specs.Reads.{IsGood};
@@ -218,7 +218,7 @@ fn run_over_datagrams<
     log: &mut Log<'_, H, E>,
 ) -> Result<(), GroupFault>
     ensures ends { RunsWith config program.now plan.now
-        (record { left = no_more; is_closed = false }) (W.contents writer.old)
+        (record { left = no_keys; is_closed = false }) (W.contents writer.old)
         (W.contents writer.new) result }
 {
     let watch = Watch::new(rt)?;

@@ -1,6 +1,6 @@
 use Rattle.std.proofs.Common.{◌∙◌, inl, inr, refl, arith}
 use Rattle.std.proofs.lemmas.Result.{err_from_is_err_and}
-use Rattle.node_run.specs.Cycles.{moment}
+use Rattle.node_run.specs.Cycles.{run_moment}
 use Rattle.node_run.proofs.Going.{begun_by, campaign_refused}
 use Rattle.node_run.proofs.Writing.{none_at_start, wrote_none}
 use Rattle.node_run.proofs.cycles.campaign_and_play.Goals as goal
@@ -30,7 +30,7 @@ returns-in_err-campaign_if-clause-run g c =
 
 pub returns-clause-run : goal.returns-clause-run
 returns-clause-run g c = inr (
-  moment _ _ _,
+  run_moment _ _ _,
   record { did = c.in_ok-campaign_if.ensures.acts; untyped = refl; unwritten = refl },
   c.play.ensures.cycles,
 )

@@ -1,6 +1,6 @@
 use Rattle.std.proofs.Common.{inl, inr, refl, arith}
 use Rattle.std.proofs.lemmas.Result.{err_from_is_err_and}
-use Rattle.node_run.specs.Cycles.{moment}
+use Rattle.node_run.specs.Cycles.{run_moment}
 use Rattle.node_run.proofs.Going.{gift_none, gone_ended, gone_then, gone_unprompted}
 use Rattle.node_run.proofs.Writing.{wrote_all, wrote_but_one, wrote_none}
 use Rattle.node_run.proofs.cycles.cycle.Goals as goal
@@ -48,14 +48,14 @@ pub returns-in_err-release_all-clause-cycle : goal.returns-in_err-release_all-cl
 returns-in_err-release_all-clause-cycle g c =
     let p = err_from_is_err_and c.from_residual-in_err-release_all.result c.from_residual-in_err-release_all.ensures.1 in
     rw (p.1, p.2) (inr (
-      moment _ _ _,
+      run_moment _ _ _,
       c.in_ok-more.ensures.turns _,
       record { did = c.in_err-release_all.ensures.released; alone = rw c.in_err-release_all.ensures.passed refl },
     ))
 
 pub returns-clause-cycle : goal.returns-clause-cycle
 returns-clause-cycle g c = record {
-  mid = moment _ _ _;
+  mid = run_moment _ _ _;
   turns = c.in_ok-more.ensures.turns _;
   releases = record { did = c.in_ok-release_all.ensures.released; alone = rw c.in_ok-release_all.ensures.passed refl };
 }

@@ -1,5 +1,5 @@
 use Rattle.std.proofs.Common.{◌≡◌, [], false, Ok, IsErrOf}
-use Rattle.node_run.specs.Cycles.{AreCycles, moment}
+use Rattle.node_run.specs.Cycles.{AreCycles, run_moment}
 use Rattle.node_run.specs.Going.{HasGoneOn, around_of}
 use Rattle.node_run.specs.Output.{AppendsOutput, NoneWaits}
 use Rattle.group_udp.specs.Refusals.{write_failed}
@@ -18,7 +18,7 @@ invariant-loop g l = record {
       (g.W.ByteWriter.contents l.writer);
   faults : g.W.ByteWriter.write_faults l.writer ≡ g.W.ByteWriter.write_faults l.fn.writer;
   cycles : AreCycles g.S.Store.kind l.plan.seen l.counter
-      (moment l.fn.host (around_of g.T.Wire.traffic g.K.Keyboard.keys l.fn.endpoints) (g.W.ByteWriter.contents l.fn.writer))
-      (moment l.host (around_of g.T.Wire.traffic g.K.Keyboard.keys l.endpoints) (g.W.ByteWriter.contents l.writer));
+      (run_moment l.fn.host (around_of g.T.Wire.traffic g.K.Keyboard.keys l.fn.endpoints) (g.W.ByteWriter.contents l.fn.writer))
+      (run_moment l.host (around_of g.T.Wire.traffic g.K.Keyboard.keys l.endpoints) (g.W.ByteWriter.contents l.writer));
   none_waits : NoneWaits l.fn.host → NoneWaits l.host;
 }

@@ -1,6 +1,6 @@
 use Rattle.std.proofs.Common.{◌≡◌, ℕ, [], false}
-use Rattle.group_udp.specs.Prompts.{Gives}
-use Rattle.node_run.specs.Cycles.{Hears}
+use Rattle.group_udp.specs.Prompts.{GivesWhatCame}
+use Rattle.node_run.specs.Cycles.{HearsTimes}
 use Rattle.group_wire.specs.Doings.{HasActed}
 use Rattle.group_wire.specs.Turns.{SameReleased}
 use Rattle.node_run.proofs.rest.rest.Given as goal
@@ -11,9 +11,9 @@ abbrev pub invariant-loop : goal.invariant-loop
 invariant-loop g l = record {
   acts : HasActed l.initial.host l.host (g.T.Wire.traffic l.fn.endpoints.wire) (g.T.Wire.traffic l.endpoints.wire) [];
   works : l.host.protocol.is_stopped ≡ false;
-  hears : (times : ℕ) × Hears g.S.Store.kind times l.initial.host l.host (g.T.Wire.traffic l.fn.endpoints.wire)
+  hears : (times : ℕ) × HearsTimes g.S.Store.kind times l.initial.host l.host (g.T.Wire.traffic l.fn.endpoints.wire)
       (g.T.Wire.traffic l.endpoints.wire);
-  looks : Gives (g.K.Keyboard.keys l.fn.endpoints.keyboard) [] (g.K.Keyboard.keys l.endpoints.keyboard);
+  looks : GivesWhatCame (g.K.Keyboard.keys l.fn.endpoints.keyboard) [] (g.K.Keyboard.keys l.endpoints.keyboard);
   stays : SameReleased l.initial.host l.host;
   progress : l.host.progress ≡ l.initial.host.progress;
 }

@@ -1,10 +1,10 @@
 use Rattle.std.proofs.Common.{◌∙◌, ap, refl}
-use Rattle.group_udp.specs.Prompts.{no_more, with_more}
+use Rattle.group_udp.specs.Prompts.{no_keys, with_more}
 use Rattle.group_udp.proofs.Typing.{came_twice, none_came, takes_in}
 use Rattle.group_udp.proofs.typed.TypedDatagramsKeyboard.look.Goals as goal
 
 pub loop-init : goal.loop-init
-loop-init g c = (no_more, none_came _)
+loop-init g c = (no_keys, none_came _)
 
 pub returns-then-not-take_in : goal.returns-then-not-take_in
 returns-then-not-take_in g c =
