@@ -1,4 +1,4 @@
-"""Rules of the pages and of the layout: links, LIBRARY's Rust, names of definitions, imports."""
+"""Rules of the pages and of the layout: LIBRARY's Rust, names of definitions, imports."""
 import importlib
 import os
 import re
@@ -6,21 +6,6 @@ import sys
 
 from . import tree
 from .tree import fault, text_of
-
-
-def check_links(path):
-    for text, target in re.findall(r"\[([^\]]*)\]\(([^)\s]+)\)", text_of(path)):
-        if "://" in target or target.startswith("#"):
-            continue
-        file = os.path.normpath(os.path.join(os.path.dirname(path), target.split("#")[0]))
-        if not os.path.exists(f"{tree.TOP}/{file}"):
-            fault(f"{path}: the link to {target} leads nowhere")
-        elif re.fullmatch(r"`\w+`", text) and file.endswith(".case"):
-            if os.path.basename(file) != f"{text.strip('`')}.case":
-                fault(f"{path}: {text} is not the name of {file}")
-        elif re.fullmatch(r"`\w+`", text) and file.endswith((".rt", ".antt")):
-            if not re.search(rf"(?<![\w-]){text.strip('`')}(?![\w-])", text_of(file)):
-                fault(f"{path}: there is no {text} in {file}")
 
 
 # The tests that compile what docs/LIBRARY.md shows, in its order.
@@ -43,14 +28,20 @@ def check_rust_shown():
         fault(f"docs/LIBRARY.md: shows Rust that no test compiles")
 
 
+# The pages that show parts of sources, each in a fence whose first line names the source.
+WITH_PARTS = ("docs/READING.md", "docs/BEGIN.md")
+PART = re.compile(r"^```\w+\n(?://|--|#) (crates/\S+)\n(.*?)^```$", re.M | re.S)
+
+
 def check_contracts_shown():
-    """Each contract of docs/READING.md stands so in the file that its first line names."""
-    shown = re.findall(r"^```rust\n// (\S+)\n(.*?)^```$", text_of("docs/READING.md"), re.M | re.S)
-    for path, contract in shown:
-        if contract not in text_of(path):
-            fault(f"docs/READING.md: a contract that it shows is not in {path}")
-    if not shown:
-        fault("docs/READING.md: it shows no contract")
+    """Each part of a source that these pages show stands so in the source."""
+    for page in WITH_PARTS:
+        shown = PART.findall(text_of(page))
+        for path, part in shown:
+            if part not in text_of(path):
+                fault(f"{page}: a part that it shows is not in {path}")
+        if not shown:
+            fault(f"{page}: it shows no part of a source")
 
 
 CODES = "crates/command_line/src/codes.rt"

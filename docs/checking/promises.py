@@ -1,58 +1,86 @@
-"""docs/PROMISES.md: rows that a person writes, and rows of calls and laws, written here from the
-comments in the sources."""
+"""Promises: those of docs/promises.txt, which a person writes, and those of calls and laws, by the
+comments in the sources. reference.py makes the pages of docs/reference of them."""
 import re
 
-from . import tree, turns
-from .tree import cells_of, fault, text_of
+from . import reference, tree, turns
+from .tree import fault, text_of
 
-PATH = "docs/PROMISES.md"
-HEADER = "| Promise | Call (clauses) | Shown by | Turned by |"
-CALLS = "| Call (clauses) | What it does | Shown by | Turned by |"
-LAWS = "| Law | What it says | Turned by |"
+PATH = "docs/promises.txt"
+# The sections that are no crate's: calls of several crates, what tests alone show, and clauses that
+# no edit turns.
+MAIN, BY_TESTS, NOT_TURNED = "main_theorem", "by_tests", "not_turned"
 MOST = 400
-NOT_TURNED = "## Not turned"
+
+
+class Entry:
+    """An entry of the file: a text, and the lines below it."""
+
+    def __init__(self, section, number, text, below):
+        self.section, self.where = section, f"{PATH}:{number}"
+        self.text, self.below = text, below
 
 
 class Row:
-    def __init__(self, number, cells, crate, keys):
-        self.number, self.cells, self.crate, self.keys = number, cells, crate, keys
+    """A promise: its text, the calls with their clauses, and the tests and edits of these."""
+
+    def __init__(self, text, calls, crate, keys):
+        self.text, self.calls, self.crate, self.keys = text, calls, crate, keys
         self.tests, self.edits = [], []
 
-    def text(self):
-        both = (self.tests, self.edits)
-        names = [", ".join(f"`{it}`" for it in sorted(set(names))) for names in both]
-        return f"| {self.cells[0]} | {self.cells[1]} | {' | '.join(names)} |"
+
+def entries():
+    """The entries of the file. A line below one that is indented by four goes on with the line
+    before it."""
+    section, found, is_new = None, [], True
+    for number, line in enumerate(text_of(PATH).split("\n"), 1):
+        if line.startswith("== "):
+            section = line[3:]
+        elif not line.strip() or line.startswith("#"):
+            is_new = True
+        elif line.startswith("    ") and found[-1].below:
+            found[-1].below[-1] += " " + line.strip()
+        elif line.startswith("  "):
+            found[-1].below.append(line.strip())
+        elif is_new:
+            found.append(Entry(section, number, line, []))
+            is_new = False
+        else:
+            found[-1].text += " " + line
+    return found
 
 
-def calls_in(cell):
-    """A cell's calls as plain text: links are dropped, and so are backquotes."""
-    return re.sub(r"\[([^\]]*)\]\([^)]*\)", r"\1", cell).replace("`", "")
+def check_sections(all_entries):
+    known = {*tree.all_crates(), MAIN, BY_TESTS, NOT_TURNED}
+    for it in all_entries:
+        if it.section not in known:
+            fault(f"{it.where}: the section {it.section} is no crate")
 
 
-def rows_of(functions):
-    """The rows of promises, and what the section of clauses that are not turned lists."""
-    rows, spared, crate = [], set(), None
-    is_promises = is_spared = False
-    for number, line in enumerate(text_of(PATH).split("\n")):
-        if line.startswith("## "):
-            crate = line[3:].strip("` ") if line[3:].strip("` ") in tree.all_crates() else crate
-            is_spared = line.startswith(NOT_TURNED)
-        if line == HEADER:
-            is_promises = True
+def rows_of(functions, all_entries):
+    """The promises about several calls, of the crates and of the main theorem."""
+    rows = []
+    for it in all_entries:
+        if it.section in (BY_TESTS, NOT_TURNED):
             continue
-        cells = cells_of(line)
-        if not cells:
-            is_promises = False
-            if line.startswith("- ") and is_spared:
-                calls = calls_in(line[2:].split(": ")[0])
-                spared |= turns.keys_of(functions, crate, calls, f"{PATH}:{number + 1}")
-            continue
-        if is_promises and set(cells[0]) != {"-"}:
-            calls = calls_in(cells[1])
-            where = f"{PATH}:{number + 1}"
-            keys = turns.keys_of(functions, crate, calls, where) if cells[1] else set()
-            rows.append(Row(number, cells, crate, keys))
-    return rows, spared
+        calls = " ".join(it.below)
+        crate = None if it.section == MAIN else it.section
+        plain = calls.replace("`", "")
+        keys = turns.keys_of(functions, crate, plain, it.where) if calls else set()
+        rows.append(Row(it.text, calls, it.section, keys))
+        if len(it.text) > MOST:
+            fault(f"{it.where}: the promise has more than {MOST} characters")
+    return rows
+
+
+def spared_of(functions, all_entries):
+    """The clauses that are listed as not turned."""
+    spared = set()
+    for it in all_entries:
+        for line in it.below if it.section == NOT_TURNED else ():
+            crate, _, calls = line.partition(": ")
+            calls = calls.split(". ")[0].replace("`", "")
+            spared |= turns.keys_of(functions, crate, calls, it.where)
+    return spared
 
 
 def place(named, rows, column):
@@ -62,7 +90,7 @@ def place(named, rows, column):
     if most == 0:
         if named.keys:
             names = ", ".join(sorted({f"{it.title()} ({clause})" for it, clause in named.keys}))
-            fault(f"{PATH}: no row names what {named.path} ({named.name}) is about: {names}")
+            fault(f"{PATH}: no promise names what {named.path} ({named.name}) is about: {names}")
         return
     wanted = set(named.keys)
     for row in sorted(rows, key=lambda row: -len(row.keys & named.keys)):
@@ -86,39 +114,35 @@ def check_turned(functions, named, spared):
             fault(f"crates/{crate}: {unnamed}, and {PATH} does not list it as not turned")
 
 
-def cells_for(function, what, title):
-    """The cells of a call or a law: its title, and the first paragraph of its comment."""
-    comment = function.comment().replace("|", "\\|")
+def comment_of(function, what):
+    """The first paragraph of the comment of a call or a law."""
+    comment = function.comment()
     if not re.match(r"[A-Z`].*\.\)?$", comment):
         fault(f"{function.path}: the comment of the {what} {function.name} is no sentence")
-    if len(title) + len(comment) > MOST:
+    if len(comment) > MOST:
         first = f"the first paragraph of the comment of {function.name}"
-        fault(f"{function.path}: {first} has more than {MOST} characters, with its title")
-    return [title, comment]
+        fault(f"{function.path}: {first} has more than {MOST} characters")
+    return comment
 
 
 class Call(Row):
-    """What the comment of a public call says of those of its clauses that no row names."""
+    """What the comment of a public call says of those of its clauses that no promise names."""
 
     def __init__(self, function, clauses):
-        names = ", ".join(f"`{it}`" for it in clauses if it)
-        title = f"`{function.title()}`" + (f" ({names})" if names else "")
         keys = {(function, it) for it in clauses}
-        super().__init__(None, cells_for(function, "call", title), function.crate, keys)
+        super().__init__(comment_of(function, "call"), "", function.crate, keys)
+        self.title, self.clauses = function.title(), [it for it in clauses if it]
 
 
 class Law(Row):
-    """What the comment of a law says that no row names."""
+    """What the comment of a law says that no promise names."""
 
     def __init__(self, function):
         module = "laws" if "laws" in function.modules else min(function.modules)
         keys = {(function, clause) for clause in function.promises()}
-        cells = cells_for(function, "law", f"`{module}::{function.name}`")
-        super().__init__(None, cells, function.crate, keys)
-
-    def text(self):
-        names = ", ".join(f"`{it}`" for it in sorted(set(self.tests + self.edits)))
-        return f"| {self.cells[0]} | {self.cells[1]} | {names} |"
+        super().__init__(comment_of(function, "law"), "", function.crate, keys)
+        self.title = f"{module}::{function.name}"
+        self.clauses = [it for it in function.promises() if it]
 
 
 def by_type(functions):
@@ -140,8 +164,8 @@ def by_type(functions):
 
 
 def calls_of(functions, rows):
-    """The public calls with clauses that no row names. An `impl` of a trait may leave the comment
-    to the trait."""
+    """The public calls with clauses that no promise names. An `impl` of a trait may leave the
+    comment to the trait."""
     named = set().union(*(row.keys for row in rows))
     found = []
     for it in by_type([it for it in functions if it.is_public and not it.is_law]):
@@ -156,28 +180,10 @@ def laws_of(functions, rows):
     return [Law(it) for it in functions if it.is_public and it.is_law and it not in named]
 
 
-def with_rows(lines, header, rows):
-    """The lines with these rows in the table with this header of each crate's section."""
-    texts = {}
-    for it in rows:
-        texts.setdefault(it.crate, []).append(it.text())
-    found, crate, is_table = [], None, False
-    for line in lines:
-        if line.startswith("## "):
-            crate = line[3:].strip("` ")
-        if is_table and line.startswith("| `"):
-            continue
-        is_table = line == header or (is_table and line.startswith("|"))
-        found.append(line)
-        if is_table and set(line) <= set("|- "):
-            found.extend(texts.pop(crate, []))
-    for crate in texts:
-        fault(f"{PATH}: the section of {crate} has no table `{header}`")
-    return found
-
-
 def check(functions, is_write):
-    rows, spared = rows_of(functions)
+    all_entries = entries()
+    check_sections(all_entries)
+    rows, spared = rows_of(functions, all_entries), spared_of(functions, all_entries)
     edits = [it for crate in tree.all_crates() for it in turns.edits_of(functions, crate)]
     tests = turns.tests_of(functions)
     calls, laws = calls_of(functions, rows), laws_of(functions, rows)
@@ -186,15 +192,6 @@ def check(functions, is_write):
     for it in tests:
         place(it, rows + calls + laws, "tests")
     check_turned(functions, edits + tests, spared)
-    lines = text_of(PATH).split("\n")
-    for row in rows:
-        lines[row.number] = row.text()
-        if len(row.cells[0]) + len(row.cells[1]) > MOST:
-            fault(f"{PATH}:{row.number + 1}: the row has more than {MOST} characters")
-    text = "\n".join(with_rows(with_rows(lines, CALLS, calls), LAWS, laws))
-    if is_write:
-        with open(f"{tree.TOP}/{PATH}", "w", encoding="utf-8") as file:
-            file.write(text)
-    elif text != text_of(PATH):
-        what = "its columns of tests and edits, its calls or its laws"
-        fault(f"{PATH}: {what} are not what docs/check --write writes")
+    of = lambda section: [it for it in all_entries if it.section == section]
+    parts = reference.Parts(rows, calls, laws, of(BY_TESTS), of(NOT_TURNED))
+    reference.check(parts, is_write)

@@ -44,7 +44,7 @@ class Attached(Terminal):
 
     def at(self):
         """The number of the node that has the session, by what was said last, or None."""
-        found = re.findall(rb"goes on at node (\d)|typed waits here", self.shown)
+        found = re.findall(rb"continues at node (\d)|you type wait here", self.shown)
         return int(found[-1] or 0) or None if found else 1
 
     def finish(self):
@@ -193,7 +193,7 @@ def play_kills(group, sessions, kill, words, pauses=(2, 3.5)):
 
 def check_session(typist, shown, must_move):
     sentences = typist.session.finish()
-    moved = sum("the session goes on at" in it for it in sentences)
+    moved = sum("the session continues at" in it for it in sentences)
     # On a busy machine a node may be killed once more before its end is seen.
     expect(f"the session went on at another node {moved} times", moved or not must_move, sentences)
     lost, shown = lost_in(sentences), bytes(it for it in shown[2:] if it in typist.signs)

@@ -9,7 +9,7 @@ import shutil
 import stat
 import subprocess
 
-from . import manual
+from . import book, manual
 
 TOP = manual.TOP
 # Where what is no program of its own stands. The folder has the repository's layout, so that the
@@ -24,7 +24,8 @@ UNITS = ("pgroup@.service", "pgroup-page@.service")
 # The pages and pictures, with all pages that they link to. Their other links, to sources, tests and
 # scripts, lead into the repository alone.
 PAGES = (
-    "README.md", "CHANGELOG.md", "docs/*.md", "docs/pictures/*", "bench/RESULTS.md",
+    "README.md", "CHANGELOG.md", "docs/*.md", "docs/reference/*.md", "docs/pictures/*",
+    "bench/RESULTS.md",
     "tests/cases/README.md",
 )
 # The examples that need nothing else of the repository.
@@ -119,6 +120,8 @@ def put_all(folder, program):
     put_scripts(tree)
     put_compilers(tree)
     put_docs(tree)
+    if book.is_possible():
+        book.make(tree.path("share/doc/pgroup/html"))
     tree.write("share/doc/pgroup/version", lines_of_version(program))
     for unit in UNITS:
         tree.copy(os.path.join(manual.GROUP, unit), f"lib/systemd/system/{unit}")

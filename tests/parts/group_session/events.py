@@ -23,7 +23,7 @@ def check_refused(folder):
         one.close()
         two.close()
         play.type(b"b")
-        play.await_said("goes on at node 3")
+        play.await_said("continues at node 3")
         play.type(b"c")
         expect("each key has come once", play.heard() == [b"", b"", b"bc"] or
                play.heard() == [b"a", b"", b"bc"], play.heard())
@@ -36,7 +36,7 @@ def check_heard(folder):
         expect("the first node has the keys", play.heard() == [b"abc", b"", b""], play.heard())
         play.nodes[0].close()
         play.type(b"d")
-        play.await_said("goes on at node 2")
+        play.await_said("continues at node 2")
         expect("the next one gets what came later", play.heard()[1:] == [b"d", b""], play.heard())
         play.await_said('typed at node 1 may be lost, and its record cannot be read here: "abc".')
 
@@ -47,10 +47,10 @@ def check_nobody(folder):
         for it in play.nodes:
             it.close()
         play.type(b"abc")
-        play.await_said("What is typed waits here")
+        play.await_said("Keys that you type wait here")
         expect("keys wait", play.session.waiting() == 3, play.session.waiting())
         play.nodes[1].bind()
-        play.await_said("What waits is typed now: the session goes on at node 2")
+        play.await_said("The keys that waited are typed now: the session continues at node 2")
         play.await_that(lambda: play.nodes[1].heard() == b"abc", "what waited is typed")
         expect("nobody else has them", [play.nodes[it].got for it in (0, 2)] == [b"", b""])
 
@@ -65,11 +65,11 @@ def check_consoles(folder):
         three.show(b"ri")
         play.await_that(lambda: play.shown == b"> right\n", "the first console is shown")
         one.close()
-        play.await_said("goes on at node 3")
+        play.await_said("continues at node 3")
         three.show(b"ght\nmore")
         play.await_that(lambda: play.shown == b"> right\nmore", "the rest is shown, once")
         three.close()
-        play.await_said("the console of node 2 is another one. What is typed waits here")
+        play.await_said("the console of node 2 is another one. Keys that you type wait here")
         play.type(b"x")
         expect("nothing is typed there", play.heard()[1] == b"", play.heard())
 
@@ -85,7 +85,7 @@ def check_not_kept(folder):
         play.await_that(lambda: play.shown == b"> " + text, "all is shown")
         two.give_back(5000)
         one.close()
-        play.await_said("goes on at node 2")
+        play.await_said("continues at node 2")
         two.show(b"more")
         play.await_that(lambda: play.shown == b"> " + text + b"more", "it goes on there")
         late = Play([two])
@@ -185,7 +185,7 @@ def check_kept(folder):
         play.type(b"ab")
         cut(play.nodes[0].console, 0)
         play.nodes[0].show(b"the console of another program")
-        play.await_said("goes on at node 2")
+        play.await_said("continues at node 2")
         play.await_said('Node 1 still runs, and has 2 keys that were typed there: "ab".')
         for it in play.nodes:
             it.vote(0, (1, 1), (1, 1, 1, b"ab"))
@@ -256,7 +256,7 @@ def check_window(folder):
             it.vote(0, (1, 1), (1, 1, 1, text[:32]))
         play.await_that(lambda: len(play.heard()[0]) == 160, "32 more are typed")
         play.nodes[0].close()
-        play.await_said("goes on at node 2")
+        play.await_said("continues at node 2")
         play.await_that(lambda: len(play.heard()[1]) == 128, "it goes on at the next node")
         expect("in their order", play.nodes[1].got == text[160:288], play.nodes[1].got)
 

@@ -15,7 +15,7 @@ from ..supervised import group_of
 
 OLD = (
     r"this record is older than what (node \d|its own supervisor) saw at \d\d:\d\d: a snapshot or "
-    r"a lying disk; this node must never run in this session again: go on with the others, then "
+    r"a lying disk; this node must never run in this session again: continue with the others, then "
     r"renew"
 )
 

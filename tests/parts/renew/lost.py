@@ -22,7 +22,7 @@ STARTED = b"\x01"
 LOST = "of session 8, and is not there now: it was taken to its machine, or it is lost"
 BEGUN = "session 8 has begun without node 3"
 UNLISTED = "No list says whether it was there before"
-OTHERWISE = "session 7 was renewed before, with other words or other records"
+OTHERWISE = "session 7 was renewed before, with other arguments or other records"
 
 
 def logs():

@@ -133,8 +133,8 @@ def check_new(words):
 def text_of_missing(words):
     return (
         f"{words.record} is missing. Is its disk mounted? If node {words.id} ever ran in session "
-        f"{words.session}, the record is lost: never say --new then, but leave this node off, go "
-        "on with the others, and renew. --new is for a node that never ran in this session"
+        f"{words.session}, the record is lost: never give --new then, but leave this node off, "
+        "continue with the others, and renew. --new is for a node that never ran in this session"
     )
 
 
@@ -151,8 +151,8 @@ def promised_of(words, is_new):
     if (record.node, record.size, record.session) != (words.id, words.size, words.session):
         raise Refused(
             f"{words.record} is of another node, size or session: it is of node {record.node} of "
-            f"{record.size} in session {record.session}, and the words are of node {words.id} of "
-            f"{words.size} in session {words.session}"
+            f"{record.size} in session {record.session}, and the arguments are of node {words.id} "
+            f"of {words.size} in session {words.session}"
         )
     return record.promised
 

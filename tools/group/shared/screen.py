@@ -39,7 +39,7 @@ def lines_of(group, height):
     lines = [time.strftime("%H:%M:%S ") + group.heading(), ""]
     for node in group.nodes:
         lines += lines_of_node(node, leader, room)
-    return lines + ["q or Ctrl-C ends this; the nodes go on"]
+    return lines + ["q or Ctrl-C ends this; the nodes keep running"]
 
 
 def draw(window, group):

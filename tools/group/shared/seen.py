@@ -141,7 +141,7 @@ def text_of_old(run, what="this record is older than what"):
     who = "its own supervisor" if run.by == run.node else f"node {run.by}"
     return (
         f"{what} {who} saw at {text_of_time(run.at)}: a snapshot or a lying disk; this node must "
-        "never run in this session again: go on with the others, then renew"
+        "never run in this session again: continue with the others, then renew"
     )
 
 

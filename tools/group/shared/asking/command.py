@@ -12,8 +12,8 @@ from .view import UP, View
 
 
 def add_words(add):
-    add("--group", metavar="FILE", help="the words of a supervisor of the group, as it takes them "
-        "by @FILE: for --beats, --session and --beats-key")
+    add("--group", metavar="FILE", help="the arguments of a supervisor of the group, as it takes "
+        "them by @FILE: for --beats, --session and --beats-key")
     add("--beats", metavar="ADDR", type=address_of, nargs="+",
         help="asks the supervisors at these addresses, in the order of the nodes")
     add("--session", metavar="N", type=int, help="the group's number")

@@ -66,7 +66,7 @@ class Guard:
     def must_be(self, headers, *roles):
         role = self.role(headers)
         if role is None:
-            raise Refused(403, "This page wants its token, which is new each time `page` starts: "
+            raise Refused(403, "This page needs its token, which is new each time `page` starts: "
                           "open the address that it has given.")
         if role not in roles:
             raise Refused(403, "You watch: keys and buttons are for those who have the other "

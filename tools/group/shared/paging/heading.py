@@ -37,10 +37,10 @@ def due_of(nodes, size, is_nobody):
     majority = majority_of(nodes, size)
     if majority is False:
         up, least = len(runs(nodes)), size // 2 + 1
-        text = f"{up} of {size} nodes run, and it takes {least}: what is typed waits until then."
+        text = f"{up} of {size} nodes run, and it takes {least}: keys that you type wait until then."
         return {"text": text, "at": None}
     best = best_of(nodes)
-    text = "Nobody leads: what is typed waits."
+    text = "Nobody leads: keys that you type wait."
     if best is None:
         return {"text": text, "at": None}
     return {"text": text, "at": best["at"], "node": best["node"]}

@@ -50,7 +50,7 @@ class Target:
         if not there.startswith(self.data):
             raise Refused(
                 f"{self.path} is there already, and has other bytes than the new record; a call "
-                "that was interrupted goes on with the records that it was given"
+                "that was interrupted continues with the records that it was given"
             )
         return True
 
@@ -102,9 +102,9 @@ class Making:
         for path, says in found.items():
             if says not in (None, self.wanted(path)):
                 raise Refused(
-                    f"session {self.old} was renewed before, with other words or other records: "
-                    f"{path} says as what. A session is renewed once: say the same words again, "
-                    f"or go on with what was made"
+                    f"session {self.old} was renewed before, with other arguments or other "
+                    f"records: {path} says as what. A session is renewed once: give the same "
+                    f"arguments again, or continue with what was made"
                 )
         return any(it is not None for it in found.values())
 
@@ -130,8 +130,8 @@ class Making:
 
     def help_for(self, lost):
         return (
-            f"Go on with the other nodes; node {lost.node} gets a record at the next renewal, of "
-            f"session {self.new} into another one, by --to"
+            f"Continue with the other nodes; node {lost.node} gets a record at the next renewal, "
+            f"of session {self.new} into another one, by --to"
         )
 
     def check_waits(self, it):

@@ -39,7 +39,7 @@ def check_group(records, is_minority=False):
         raise Unfit(f"{count} a majority: leave --from-minority out")
     if not is_minority and 2 * len(nodes) <= first.size:
         raise Unfit(f"{count} no majority: what was chosen may be in the others. If those are lost "
-                    "for good, --from-minority goes on without them")
+                    "for good, --from-minority continues without them")
 
 
 def value_at(records, place):

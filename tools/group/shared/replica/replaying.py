@@ -82,7 +82,7 @@ class Replay:
         if isinstance(fault, Cut):
             self.cut = str(fault)
         elif fault is not None:
-            raise Differs(f"{fault} (behind line {self.steps.count + 1} of the script)")
+            raise Differs(f"{fault} (after line {self.steps.count + 1} of the script)")
 
     def follow_steps(self):
         prints, moments, every = Prints(), 0, 1

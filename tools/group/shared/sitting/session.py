@@ -1,5 +1,5 @@
 """The session: keys that are typed once, and the console of the node at which they are typed. When
-that node is lost the session goes on at the next one whose console agrees with what was shown."""
+that node is lost the session continues at the next one whose console agrees with what was shown."""
 
 import collections
 import time
@@ -221,14 +221,14 @@ class Session:
             if self.away is None:
                 differing = [f"the console of {it} is another one" for it in self.differing()]
                 more = "".join(f"; {it}" for it in differing)
-                self.say("away", f"{why}, and no other node that is seen here can go on{more}. "
-                         "What is typed waits here.")
+                self.say("away", f"{why}, and no other node that is seen here can take over{more}. "
+                         "Keys that you type wait here.")
             self.away = why
             return False
         before, self.at = self.at, max(found)[2]
         again = ", which runs again" if before == self.at else ""
-        first = why if self.away is None else "What waits is typed now"
-        self.say("moved", f"{first}: the session goes on at {self.name()}{again}, "
+        first = why if self.away is None else "The keys that waited are typed now"
+        self.say("moved", f"{first}: the session continues at {self.name()}{again}, "
                  "and its console is shown.")
         self.away = self.stopped = None
         return True
@@ -242,7 +242,7 @@ class Session:
             return self.why_not(at, seat)
         self.leave()
         self.at, self.away, self.stopped = at, None, None
-        self.say("moved", f"the session goes on at {self.name()}, as it was asked for.")
+        self.say("moved", f"the session continues at {self.name()}, as it was asked for.")
         return None
 
     def why_not(self, at, seat):
@@ -342,7 +342,7 @@ class Session:
     def why_waiting(self):
         """Why keys wait, as far as that is known, or an empty text."""
         if self.away:
-            return "no node that is seen here can go on"
+            return "no node that is seen here can take over"
         leader = self.leader()
         if leader is not False:
             return "earlier ones may still come" if self.held and self.losses.holds() else ""

@@ -179,14 +179,14 @@ class Node:
         if end is not None:
             how = f", by {end}" if end else ""
             self.end = end
-            goes_on = "it goes on, and nobody reads what is typed"
+            goes_on = "the node keeps running, and nobody reads what is typed"
             say(self.words, f"says that the program has ended{how}; {goes_on}")
 
     def note_end(self, status, now):
         self.process = None
         self.speech.close()
         if status == 2:
-            raise Refused("the program refuses its words")
+            raise Refused("the program refuses its arguments")
         if status == 0 or now - self.started > STEADY:
             self.pause, self.due = PAUSE, now
         why = f", {self.why_refused()}" if status == 1 and sentence_of(self.speech.last) else ""

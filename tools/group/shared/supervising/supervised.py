@@ -54,7 +54,7 @@ def add_words(add):
         help="how long no leader is heard before a node is asked (3)")
     add("--new", action="store_true", help="the node is new: there is no record yet")
     add(RUN_ON_OLD, action="store_true", dest="run_on_old", help="start the node on a record that "
-        "is older than what was seen of it; to be typed each time, and not in a file of words")
+        "is older than what was seen of it; to be typed each time, and not in a file of arguments")
     add("--program", metavar="FILE", default=program, type=os.path.abspath,
         help="pgroup; if not said, $PGROUP, or that of this repository or package")
 
