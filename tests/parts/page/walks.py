@@ -111,7 +111,8 @@ def check_moments(walker, run, consoles):
         sizes = found
         for it, whole in zip(part["consoles"], consoles):
             line = whole[: it[1]].decode().rpartition("\n")[2]
-            shown = "".join(it[2][-(len(line) // 80 + 1) :])
+            # A row has no spaces at its end, also where the line goes on in the next one.
+            shown = "".join(row.ljust(80) for row in it[2][-(len(line) // 80 + 1) :])
             if line.rstrip() != shown.rstrip():
                 wrong.append((part["at"], line, shown))
         for it in part["arrows"]:
