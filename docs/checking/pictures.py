@@ -11,14 +11,17 @@ from .tree import fault
 FOLDER = "docs/pictures"
 PROGRAM = "examples/echo.code"
 # The picture of each of these scripts has its name.
-SCRIPTS = ("examples/group/leader_falls.script", "examples/group/key_twice.script")
+SCRIPTS = ("examples/group/leader_falls.script", "examples/group/key_twice.script",
+           "examples/group/campaign.script")
+# How wide a page is.
+WIDTH = "860"
 
 
 def picture_of(script, program):
     """What draw makes of a script."""
     words = [
         f"{tree.TOP}/tools/group/draw", f"{tree.TOP}/{script}", "--file", f"{tree.TOP}/{PROGRAM}",
-        "--program", program,
+        "--program", program, "--width", WIDTH,
     ]
     done = subprocess.run(words, capture_output=True)
     if done.returncode:

@@ -26,6 +26,7 @@ text{{{FONT};font-size:10px;fill:#222}} .back{{fill:#fff}} .none{{fill:none}}
 .down{{stroke:{ON["down"]};stroke-width:1;stroke-dasharray:1 4}} .up{{stroke:{ON["up"]};stroke-width:2}}
 .leads{{stroke:{ON["leads"]};stroke-width:8}} .save{{fill:#111;stroke:#fff;stroke-width:0.7}}
 .failed{{fill:#fff;stroke:#c62828;stroke-width:2}} .start{{fill:{ON["start"]}}}
+.rest{{fill:#fff;stroke:none}} .resting{{font-size:9px;fill:#888;font-style:italic}}
 .crash{{fill:none;stroke:{ON["crash"]};stroke-width:3}}
 .m{{fill:none;stroke-width:1.2}} .s0{{opacity:0.22}} .m.s1{{opacity:0.4;stroke-width:0.8}}
 .label{{font-size:9px;paint-order:stroke;stroke:#fff;stroke-width:3px;stroke-linejoin:round}}
@@ -51,11 +52,12 @@ SIGNS = {
     "learned": lambda x, y: svg.rect(x, y - 10, 13, 12, "learned", rx=2),
     "votes": lambda x, y: svg.path(f"M{x + 4} {y - 9}v9m5-9v9m5-9v9", "tick"),
     "console": lambda x, y: svg.rect(x, y - 10, 20, 12, "strip"),
+    "key": lambda x, y: svg.rect(x, y - 10, 13, 12, "key", rx=3),
 }
 # Where the signs of a picture and their words begin.
 ON_PICTURES = {
     "leads": (0, 26), "up": (70, 96), "down": (124, 150), "start": (195, 208),
-    "crash": (248, 264), "save": (308, 320), "learned": (358, 376),
+    "crash": (248, 264), "save": (308, 320), "key": (358, 376), "learned": (440, 458),
 }
 # Those of the two kinds of pages.
 ON_PAGES = {
@@ -70,7 +72,7 @@ def signs(x, y, is_detailed):
     places = "a place and its value, when the node learns it" if is_detailed else "a learned place"
     parts = []
     for name, (at, words) in ON_PICTURES.items():
-        said = places if name == "learned" else name
+        said = {"learned": places, "key": "typed key"}.get(name, name)
         parts += [SIGNS[name](x + at, y), svg.text(x + words, y, said, "said")]
     return parts
 

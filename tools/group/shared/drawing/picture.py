@@ -1,17 +1,17 @@
 """Draws a scene (`scene.py`) as an SVG picture: rows as those of music, each with a lane for each
 node, time from left to right."""
 
-import datetime
 import math
 
 from ..replica.datagram import text_of_message
 from . import svg
 from .layout import Layout
 from .legend import STYLE, legend, legend_height
-from .scene import HEARD, LATER, LOST, shown_characters
+from .scene import HEARD, LATER, LOST, moment_of, shown_characters
 
-# How far from its sender the words of a message begin.
-LABEL_FROM = 13
+# How far from its sender the words of a message begin, by how much they are moved along the line,
+# how wide a character is, and how near the words of two messages may come to each other.
+LABEL_FROM, LABEL_STEP, LETTER, NEAR = 13, 8, 5.0, 10
 
 
 def value_label(value):
@@ -49,11 +49,15 @@ class Picture:
     def __init__(self, scene, layout, places, notes):
         self.scene, self.at, self.places, self.notes = scene, layout, places, notes
         self.labelled = self.lines_with_words()
+        self.taken = []  # points of the words that are placed
 
     def drawn(self, name):
         count = len({it.number for it in self.scene.arrows if self.is_drawn(it)})
-        title = f"{name}: {len(self.at.nodes)} nodes, {count} messages"
-        body = [svg.text(self.at.left_edge, 24, title, "title")]
+        session = f"session {self.scene.group.session}"
+        times = [time for _, _, time in self.scene.moments if time is not None]
+        about = [session, *([moment_of(min(times))] if times else []),
+                 f"{len(self.at.nodes)} nodes", f"{count} messages"]
+        body = [svg.text(self.at.left_edge, 24, f"{name}: {', '.join(about)}", "title")]
         for row in self.at.rows:
             body += self.row(row)
         body += legend(self.at.left_edge, self.at.end, self.at.is_detailed, self.notes)
@@ -89,14 +93,14 @@ class Picture:
         text = f"lines {min(lines)} to {max(lines)}"
         times = [time for _, _, time in there if time is not None]
         if times:
-            begin = datetime.datetime.fromtimestamp(min(times) / 1000, datetime.timezone.utc)
-            text += begin.strftime(", from %Y-%m-%d %H:%M:%S UTC")
+            text += f", from {moment_of(min(times))}"
         return [svg.text(self.at.left, row.top - 2, text, "when")]
 
     def row(self, row):
         """A row: its lanes, then messages over them, then marks over these."""
         clip = f"row{row.number}"
-        box = svg.rect(self.at.left, row.top - 4, self.at.width, row.height + 8, "none")
+        wide = self.at.x(row, row.end) - self.at.left
+        box = svg.rect(self.at.left, row.top - 4, wide, row.height + 8, "none")
         body = [svg.element("clipPath", box, id=clip), *self.when(row)]
         for node in self.at.nodes:
             body += self.lane(row, node)
@@ -107,7 +111,18 @@ class Picture:
         body.append(svg.element("g", "\n".join(lines) or " ", clip_path=f"url(#{clip})"))
         for node in self.at.nodes:
             body += self.marks(row, node)
-        return body
+        return body + self.rests(row)
+
+    def rests(self, row):
+        """A gap in all lanes for each rest, with its length."""
+        parts = []
+        for begin, end, words in self.scene.rests:
+            if row.begin <= begin < row.end:
+                x, right = self.at.x(row, begin), self.at.x(row, min(end, row.end))
+                for node in self.at.nodes:
+                    parts.append(svg.rect(x, self.at.y(row, node) - 5, right - x, 10, "rest"))
+                parts.append(svg.text(x, row.top + 10, words, "resting"))
+        return parts
 
     # Lanes.
 
@@ -205,7 +220,31 @@ class Picture:
         turn = math.degrees(math.atan2(finish[1] - start[1], finish[0] - start[0]))
         place = f"translate({svg.short(start[0])} {svg.short(start[1])}) rotate({turn:.0f})"
         names = f"label {arrow.message.kind} s{self.strength(arrow)}"
-        return [svg.text(LABEL_FROM, -3, label_of(arrow.message), names, transform=place)]
+        words = label_of(arrow.message)
+        begin = self.free_place(start, finish, LETTER * len(words))
+        return [svg.text(begin, -3, words, names, transform=place)]
+
+    def free_place(self, start, finish, long):
+        """Where on its line the words of a message hide no others: as near to its sender as that
+        is so, or else as far from them as they can be."""
+        length = math.dist(start, finish)
+        along = [(to - fro) / length for fro, to in zip(start, finish)]
+
+        def points(begin):
+            steps = range(int(begin), int(begin + long) + 1, 6)
+            return [(start[0] + along[0] * at, start[1] + along[1] * at) for at in steps]
+
+        def distance(begin):
+            return min((math.dist(one, other) for one in points(begin) for other in self.taken),
+                       default=math.inf)
+
+        last = max(LABEL_FROM, int(length - long - LABEL_FROM))
+        places = range(LABEL_FROM, last + 1, LABEL_STEP)
+        begin = next((it for it in places if distance(it) >= NEAR), None)
+        if begin is None:
+            begin = max(places, key=distance)
+        self.taken += points(begin)
+        return begin
 
     # Marks.
 

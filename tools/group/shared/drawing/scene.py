@@ -4,6 +4,7 @@ does is in order, and a message is heard to the right of where it was sent. What
 outside (a start, a crash, a campaign, a typed key) is to the right of all that was before it."""
 
 import collections
+import datetime
 
 # A message on its way: its number, and the columns at which it was sent and heard. `begin` is None
 # where it was sent before the picture, and `end` where it was not heard in it.
@@ -15,6 +16,8 @@ Span = collections.namedtuple("Span", "node begin end ballot")
 
 HEARD, LOST, LATER = "heard", "lost", "later"
 OUTSIDE = ("start", "crash", "campaign", "type")
+# In how many milliseconds without anything but Asks the nodes rest. Such a rest takes few columns.
+REST, REST_COLUMNS = 3000, 3
 # How many columns a message takes at least.
 FLIGHT = 3
 
@@ -23,6 +26,36 @@ def shown_characters(data):
     """Characters as they are drawn: a line feed as a sign, other controls as a dot."""
     signs = {10: "\u21b5", 13: "\u21b5", 32: "\u00b7"}
     return "".join(signs.get(it, chr(it) if 32 < it < 127 else "\u25aa") for it in data)
+
+
+def second_of(time):
+    """The second of the day, UTC, of a time in milliseconds since 1970."""
+    return time // 1000 % 86400
+
+
+def moment_of(time):
+    """A time in milliseconds since 1970 as it is written in pictures."""
+    there = datetime.datetime.fromtimestamp(time / 1000, datetime.timezone.utc)
+    return there.strftime("%Y-%m-%d %H:%M:%S UTC")
+
+
+class Bounds:
+    """Which part of a script is drawn: from a line, or from the first moment at or after a time of
+    the day, up to a line or a time."""
+
+    def __init__(self, first, last, from_second=None, to_second=None):
+        self.first, self.last = first, last
+        self.from_second, self.to_second = from_second, to_second
+
+    def note(self, line, time):
+        """Finds the lines of the times, once they come."""
+        if self.from_second is not None and time is not None:
+            self.first = line if second_of(time) >= self.from_second else line + 1
+            if self.first == line:
+                self.from_second = None
+        if self.from_second is None and self.to_second is not None and time is not None:
+            if second_of(time) > self.to_second:
+                self.last, self.to_second = line - 1, None
 
 
 class Lane:
@@ -35,17 +68,20 @@ class Lane:
 class Scene:
     """Columns and what is at them, filled event by event."""
 
-    def __init__(self, group, first, last):
-        self.group, self.first, self.last = group, first, last
+    def __init__(self, group, bounds, is_short=False):
+        """With `is_short` a rest takes few columns."""
+        self.group, self.bounds, self.is_short = group, bounds, is_short
+        self.waiting = []  # what has happened in a rest
         self.lanes = {it: Lane() for it in group.nodes}
         self.arrows, self.marks, self.spans = [], [], []
         self.sent_at, self.heard, self.later = {}, set(), set()
         self.moments = []  # of each event its column, its line, and its time, if that is known
+        self.rests = []  # of each rest its columns, and its words
         self.base = self.width = 1
         self.seen = 1  # the last line
 
     def is_shown(self, line):
-        return self.first <= line <= self.last
+        return self.bounds.first <= line <= self.bounds.last
 
     # Columns.
 
@@ -68,6 +104,35 @@ class Scene:
     def add(self, line, event, happened, time=None):
         """An event of a script and what it did. Events before the picture only change lanes."""
         self.seen = line
+        self.bounds.note(line, time)
+        if self.is_short and self.is_shown(line):
+            if time is not None and self.is_quiet(event, happened):
+                self.waiting.append((line, event, happened, time))
+                return
+            self.end_rest()
+        self.add_now(line, event, happened, time)
+
+    def is_quiet(self, event, happened):
+        """Whether an event is a part of a rest: nodes ask, and nothing is new."""
+        asks = all(self.group.sent[it].message.kind == "ask" for it in happened.sends)
+        is_still = not (happened.learned or happened.refused) and happened.saved is None
+        is_ask = event.kind == "deliver" and self.group.sent[event.number].message.kind == "ask"
+        is_own = event.kind in ("tick", "run")
+        return asks and is_still and (is_own or is_ask)
+
+    def end_rest(self):
+        """A rest of some seconds is a gap with its length; a short one is drawn."""
+        waiting, self.waiting = self.waiting, []
+        if not waiting or waiting[-1][3] - waiting[0][3] < REST:
+            for it in waiting:
+                self.add_now(*it)
+            return
+        begin = self.width + 1
+        self.width = self.base = begin + REST_COLUMNS
+        seconds = round((waiting[-1][3] - waiting[0][3]) / 1000)
+        self.rests.append((begin, self.width, f"{seconds} s, only Asks"))
+
+    def add_now(self, line, event, happened, time):
         if not self.is_shown(line):
             self.pass_by(line, event, happened)
             return
@@ -86,9 +151,9 @@ class Scene:
         self.follow_lane(event.node, lane, column)
 
     def pass_by(self, line, event, happened):
-        if line > self.last and event.kind == "deliver":
+        if line > self.bounds.last and event.kind == "deliver":
             self.later.add((event.number, event.node))
-        if line < self.first:
+        if line < self.bounds.first:
             self.follow_lane(event.node, self.lanes[event.node], 1)
 
     def mark(self, kind, node, column, text, line):
@@ -143,6 +208,7 @@ class Scene:
 
     def close(self):
         """Ends all lanes, and adds the messages that were not heard."""
+        self.end_rest()
         end = self.width + 2
         for number, lane in self.lanes.items():
             if lane.since is not None:

@@ -5,11 +5,12 @@ from ..replica.following import Cut, Differs, Following
 from .scene import Scene
 
 
-def scene_of_traces(paths, first, last, note=lambda scene, line, event, happened, call: None):
+def scene_of_traces(paths, bounds, note=lambda scene, line, event, happened, call: None,
+                    is_short=False):
     """The scene of the traces in these files, and what ended it before its end, or None. `note` is
-    told of each event, once the scene has it."""
+    told of each event, once the scene has it. With `is_short` a rest takes few columns."""
     following = Following(paths, {}, keeps_all=True)
-    scene, fault = Scene(following.group, first, last), None
+    scene, fault = Scene(following.group, bounds, is_short), None
     shown = dict.fromkeys(following.group.nodes, 0)
     try:
         for line, (event, happened, call) in enumerate(following.steps(), 2):

@@ -6,6 +6,7 @@ import os
 
 from ..drawing.picture import label_of
 from ..drawing.scene import HEARD, LATER, shown_characters
+from ..drawing.scene import Bounds
 from ..drawing.traced import scene_of_traces
 from ..files import Refused
 from ..record import text_of_ballot
@@ -64,7 +65,7 @@ class Past:
         # By the nodes: the bytes of the console, and at which columns they were shown.
         self.consoles, self.grown = {}, {}
         try:
-            self.scene, self.ended = scene_of_traces(paths, 1, LAST, self.note)
+            self.scene, self.ended = scene_of_traces(paths, Bounds(1, LAST), self.note)
         except (Bad, Differs) as fault:
             raise Refused(str(fault))
         if not self.moments:
