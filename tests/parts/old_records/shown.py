@@ -65,6 +65,21 @@ def check_sums(folder):
     expect("a console that was cut begins anew", sums.whole() == Told(10, sum_of(data[:10])))
 
 
+def check_mended(folder):
+    """A console that the supervisor cuts, and that has as many bytes again before it is looked
+    at."""
+    own = Own(folder, "mended")
+    own.write(b"> one")
+    own.console.sync()
+    own.write(b"\0\0\0")
+    said = own.console.open()
+    expect("what was lost is cut", said and "from 8 to 5 bytes" in said, said)
+    own.write(b"\n> two")
+    own.shown.look()
+    expect("what was there before is forgotten", own.shown.sums.whole() == Told(
+        11, sum_of(b"> one\n> two")), own.shown.sums.whole())
+
+
 def check_lines(_folder):
     """The line that is told."""
     line = b"shown 12 0123456789abcdef"

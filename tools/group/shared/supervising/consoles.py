@@ -92,6 +92,7 @@ class Console:
         self.file = self.noted = self.fault = None
         self.boot, self.due, self.syncing = boot_of_machine(), 0.0, None
         self.cannot_cut = False
+        self.cuts = 0  # how often it was cut here
 
     def open(self):
         """Opens it and cuts what is not trusted, once no process writes to it. Returns what is said
@@ -132,6 +133,7 @@ class Console:
         if kept == length:
             return None
         os.ftruncate(self.file, kept)
+        self.cuts += 1
         lost = f", and {nuls} of the others were NULs" if nuls else ""
         return (
             f"cuts the console {self.path} from {length} to {kept} bytes: no more of it is known "

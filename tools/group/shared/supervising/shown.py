@@ -37,21 +37,22 @@ class Sums:
     at some lengths, from 0 on."""
 
     def __init__(self, console):
-        self.console, self.inode, self.length, self.marks = console, None, 0, []
+        self.console, self.of, self.length, self.marks = console, None, 0, []
         self.begin(None)
 
-    def begin(self, inode):
-        self.inode, self.length, self.marks = inode, 0, [(0, hashlib.sha256())]
+    def begin(self, of):
+        self.of, self.length, self.marks = of, 0, [(0, hashlib.sha256())]
 
     def look(self):
         """Reads a piece of what has come. What was cut, or is another file, begins anew."""
         length = self.console.known_length()
-        if length is None or length == self.length == self.marks[-1][0]:
+        is_same = self.of is not None and self.of[1] == self.console.cuts
+        if length is None or is_same and length == self.length == self.marks[-1][0]:
             return
         with contextlib.suppress(OSError), open(self.console.path, "rb") as file:
-            inode = os.fstat(file.fileno()).st_ino
-            if inode != self.inode or length < self.marks[-1][0]:
-                self.begin(inode)
+            of = os.fstat(file.fileno()).st_ino, self.console.cuts
+            if of != self.of or length < self.marks[-1][0]:
+                self.begin(of)
             self.length, last = length, self.marks[-1][0]
             if last < length:
                 state = self.state_at(min(length, last + PIECE), file)
