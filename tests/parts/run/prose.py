@@ -1,0 +1,110 @@
+"""What docs/check says of pages that are too long, of lines that are too wide, and of links that
+lead nowhere: of pages that are made here."""
+
+import os
+import sys
+
+from ..checks import Checks
+from ..program import TOP
+
+sys.path.insert(0, os.path.join(TOP, "docs"))
+from checking import lengths, links, tree, wrapped
+
+WORD = "word "
+
+
+class OfPages(Checks):
+    """A folder with pages, at which docs/check looks."""
+
+    def setUp(self):
+        super().setUp()
+        self.addCleanup(setattr, tree, "TOP", tree.TOP)
+        self.addCleanup(tree.FAULTS.clear)
+        self.addCleanup(links.ANCHORS.clear)
+        tree.TOP = self.room
+        for name in ("README.md", "CHANGELOG.md", "docs/PROMISES.md"):
+            self.put(name, "# A page\n")
+
+    def put(self, name, text):
+        path = os.path.join(self.room, name)
+        os.makedirs(os.path.dirname(path), exist_ok=True)
+        with open(path, "w", encoding="utf-8") as file:
+            file.write(text)
+
+    def faults(self, look):
+        tree.FAULTS.clear()
+        look()
+        return list(tree.FAULTS)
+
+
+class OfLinks(OfPages):
+    """Links to files and to sections."""
+
+    def said(self, text):
+        links.ANCHORS.clear()
+        self.put("docs/ONE.md", "# One\n\n## A `b` (c), d\n\n## Twice\n\n## Twice\n")
+        self.put("docs/TWO.md", text)
+        return self.faults(lambda: links.check("docs/TWO.md"))
+
+    def test_links(self):
+        for text, is_right in (
+            ("[a](ONE.md#a-b-c-d)", True), ("[a](ONE.md#twice-1)", True), ("[a](ONE.md)", True),
+            ("# T\n[a](#t)", True), ("[a](https://x.org/#y)", True),
+            ("[a](ONE.md#a-b-c)", False), ("[a](ONE.md#twice-2)", False), ("[a](#t)", False),
+            ("[a](NONE.md)", False), ("```\n# T\n```\n[a](#t)", False),
+        ):
+            with self.check(f"a link: {text!r}"):
+                self.assertEqual(self.said(text) == [], is_right)
+
+
+class OfWrapping(OfPages):
+    """What is wrapped, and what stays."""
+
+    def test_wrapping(self):
+        long = (WORD * 30).strip()
+        code, row = f"    {long}\n", f"| {long} |\n"
+        for what, text, is_kept in (
+            ("a paragraph", f"{long}\n", False), ("a point", f"- {long}\n", False),
+            ("a short paragraph", "word\n", True), ("two short lines", "word\nword\n", False),
+            ("code", code, True), ("a row of a table", row, True),
+            ("a fence", f"```text\n{long}\n```\n", True), ("a heading", f"# {long}\n", True),
+            ("one long word", "w" * 120 + "\n", True), ("long code", f"`{long}`\n", True),
+        ):
+            with self.check(f"wrapping: {what}"):
+                self.assertEqual(wrapped.page_of(text) == text, is_kept)
+                again = wrapped.page_of(wrapped.page_of(text))
+                self.assertEqual(again, wrapped.page_of(text))
+        for sign in ("-", "1.", "#", "|", "+", ">"):
+            text = f"{'word ' * 19}last {sign} more words\n"
+            with self.check(f"no line begins with {sign} that did not"):
+                lines = wrapped.page_of(text).split("\n")
+                self.assertTrue(all(not it.startswith(sign) for it in lines), lines)
+
+    def test_writes(self):
+        self.put("docs/ONE.md", WORD * 30 + "\n")
+        look = lambda is_write: self.faults(lambda: wrapped.check(is_write))
+        with self.check("a page that is not wrapped is refused, and wrapped"):
+            self.assertEqual(look(False), [
+                "docs/ONE.md:1: is not wrapped at 100 columns; docs/check --write wraps it"])
+            self.assertEqual(look(True) + look(False), [])
+
+
+class OfLengths(OfPages):
+    """Lines of README, and words of the pages."""
+
+    def test_lengths(self):
+        with self.check("short pages"):
+            self.assertEqual(self.faults(lengths.check), [])
+        self.put("README.md", "line\n" * 130)
+        with self.check("README has 130 lines"):
+            self.assertEqual(self.faults(lengths.check),
+                             ["README.md: has 130 lines, more than 129"])
+        self.put("README.md", "# A page\n")
+        self.put("docs/reference/ONE.md", WORD * lengths.MOST)
+        with self.check("what is made is not counted"):
+            self.assertEqual(self.faults(lengths.check), [])
+        self.put("docs/ONE.md", WORD * lengths.MOST)
+        with self.check("too many words"):
+            self.assertEqual(self.faults(lengths.check), [
+                f"README.md and docs: have {lengths.MOST + 6} words that a person writes, more "
+                f"than {lengths.MOST}"])
