@@ -45,6 +45,8 @@ def check_contracts_shown():
 
 
 CODES = "crates/command_line/src/codes.rt"
+# What ends a table.
+END = "\n\n"
 PROGRAM = "crates/command_line/src/program.rt"
 
 
@@ -56,17 +58,22 @@ def codes_of_program():
     return [re.fullmatch(r"(?:  (\S+) +)?(.*)", it).groups() for it in lines]
 
 
-def check_sentences():
-    """The sentences of the codes in docs/FORMATS.md are those of the program and of the scripts."""
+def check_sentences(is_write):
+    """The sentences of the codes in docs/FORMATS.md are those of the scripts, and the program has
+    the same."""
     sys.path.insert(0, f"{tree.TOP}/tools/group")
     sentences = importlib.import_module("shared.codes").SENTENCES
-    behind = text_of("docs/FORMATS.md").partition("| Code | Its sentence |\n|---|---|\n")[2]
-    table = behind.partition("\n\n")[0]
-    there = [tree.cells_of(it) for it in table.split("\n")]
-    of_scripts = "tools/group/shared/codes.py", list(sentences.items())
-    for path, of_path in (of_scripts, (CODES, codes_of_program())):
-        if there != [[f"`{code}`", text] for code, text in of_path]:
-            fault(f"docs/FORMATS.md: the sentences of the codes are not those of {path}")
+    head = "| Code | Its sentence |\n|---|---|\n"
+    before, _, behind = text_of("docs/FORMATS.md").partition(head)
+    table = "\n".join(f"| `{code}` | {text} |" for code, text in sentences.items())
+    page = f"{before}{head}{table}{END}{behind.partition(END)[2]}"
+    if is_write:
+        with open(f"{tree.TOP}/docs/FORMATS.md", "w", encoding="utf-8") as file:
+            file.write(page)
+    elif page != text_of("docs/FORMATS.md"):
+        fault("docs/FORMATS.md: the sentences of the codes are not what docs/check --write writes")
+    if codes_of_program() != list(sentences.items()):
+        fault(f"{CODES}: the sentences of the codes are not those of tools/group/shared/codes.py")
     named = set(re.findall(r"(?<![\w.])[FOGEDV]\d+\b", text_of("docs/FORMATS.md")))
     named -= sentences.keys()
     if named - {"G13"}:

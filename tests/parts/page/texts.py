@@ -25,7 +25,7 @@ def check_heading(_):
         found = heading_of(nodes(*states), size, leader, nobody)
         expect(what, found == what, found)
     due = due_of(nodes("down", "up", "up", "stopped", "down"), 5, True)
-    wanted = "2 of 5 nodes run, and it takes 3: what is typed waits until then."
+    wanted = "2 of 5 nodes run, and it takes 3: keys that you type wait until then."
     expect("what is due without a majority", due == {"text": wanted, "at": None}, due)
 
 

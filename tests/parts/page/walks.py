@@ -111,8 +111,10 @@ def check_moments(walker, run, consoles):
         sizes = found
         for it, whole in zip(part["consoles"], consoles):
             line = whole[: it[1]].decode().rpartition("\n")[2]
-            # A row has no spaces at its end, also where the line goes on in the next one.
-            shown = "".join(row.ljust(80) for row in it[2][-(len(line) // 80 + 1) :])
+            # A row has no spaces at its end, also where the line goes on in the next one. A line of
+            # 80 characters is one row.
+            rows = it[2][-(-(-len(line) // 80) or 1) :]
+            shown = "".join(row.ljust(80) for row in rows)
             if line.rstrip() != shown.rstrip():
                 wrong.append((part["at"], line, shown))
         for it in part["arrows"]:

@@ -24,7 +24,7 @@ def check_minority(folder):
                by_number(*paths, "--from-minority"), 1, "leave --from-minority out")
     os.remove(paths[1])
     one, to = paths[0], ["--to", *(os.path.join(folder, f"new{it}") for it in (1, 2, 3))]
-    expect_end("minority: without the word", by_number(one, *to), 1, "--from-minority goes on")
+    expect_end("minority: without the word", by_number(one, *to), 1, "--from-minority continues")
     expect_end("minority: without places", by_number(one, "--from-minority"), 1, "--to says where")
     before = files_of(folder)
     for what, text in (("nothing", b""), ("yes", b"yes\n"), ("another word", b"lose\n")):

@@ -19,6 +19,8 @@ REMOVING = os.path.join(SHARED, "demo", "removing.py")
 SIZE = 3
 # How long no leader is heard before another node is asked, and how long a node has to start.
 SILENT, START = 1.0, 60.0
+# How long supervisors have to end by SIGTERM, in seconds.
+PATIENCE = 5.0
 PR_SET_PDEATHSIG = 1
 LIBC = ctypes.CDLL(None)
 
@@ -95,7 +97,13 @@ class Group:
         """Ends all, and waits until it is removed."""
         for it in self.supervisors:
             it.terminate()
+        until = time.monotonic() + PATIENCE
         for it in self.supervisors:
-            it.wait()
+            try:
+                it.wait(max(0.0, until - time.monotonic()))
+            except subprocess.TimeoutExpired:
+                # It was stopped by a signal. Its node ends with it.
+                it.kill()
+                it.wait()
         self.remover.stdin.close()
         self.remover.wait()

@@ -17,7 +17,7 @@ Span = collections.namedtuple("Span", "node begin end ballot")
 HEARD, LOST, LATER = "heard", "lost", "later"
 OUTSIDE = ("start", "crash", "campaign", "type")
 # In how many milliseconds without anything but Asks the nodes rest. Such a rest takes few columns.
-REST, REST_COLUMNS = 3000, 3
+REST, REST_COLUMNS = 1000, 3
 # How many columns a message takes at least.
 FLIGHT = 3
 

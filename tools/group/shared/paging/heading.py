@@ -37,9 +37,8 @@ def due_of(nodes, size, is_nobody):
     majority = majority_of(nodes, size)
     if majority is False:
         up, least = len(runs(nodes)), size // 2 + 1
-        text = (f"{up} of {size} nodes run, and it takes {least}: "
-                "keys that you type wait until then.")
-        return {"text": text, "at": None}
+        runs_now = f"{up} of {size} nodes run, and it takes {least}"
+        return {"text": f"{runs_now}: keys that you type wait until then.", "at": None}
     best = best_of(nodes)
     text = "Nobody leads: keys that you type wait."
     if best is None:
