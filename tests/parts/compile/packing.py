@@ -9,7 +9,7 @@ from .judging import Options, compile_text, run, tool, write
 CAPITALS = "".join(map(chr, range(65, 91)))
 ALPHABETS = (CAPITALS + " ", CAPITALS.lower() + " .", "ABCdef. ", "".join(map(chr, range(32, 64))),
              "".join(map(chr, range(32, 127))), "aB", ".. aaA'")
-TEXT = "Far below something glitters. A shaft leads down, and the cellar is in the west."
+TEXT = "Far below something glitters. A shaft leads down, and a cellar is in the west."
 LINES = 600  # of TEXT and its number: too many for a segment, unless they are packed
 
 
