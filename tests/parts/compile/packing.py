@@ -9,7 +9,7 @@ from .judging import Options, compile_text, run, tool, write
 CAPITALS = "".join(map(chr, range(65, 91)))
 ALPHABETS = (CAPITALS + " ", CAPITALS.lower() + " .", "ABCdef. ", "".join(map(chr, range(32, 64))),
              "".join(map(chr, range(32, 127))), "aB", ".. aaA'")
-TEXT = "Far below something glitters. A shaft leads down, and the cellar is in the west."
+TEXT = "Far below something glitters. A shaft leads down, and a cellar is in the west."
 LINES = 600  # of TEXT and its number: too many for a segment, unless they are packed
 
 
@@ -43,6 +43,31 @@ def try_written():
     passed("260 lines are written as they stand, also where they are packed")
 
 
+IN_A_FILE = """PROGRAM P;
+VAR F: TEXT; S: STRING[100];
+BEGIN
+  REWRITE(F, 'X');
+  WRITE('Both are packed. '); WRITELN(F, '{line}');
+  WRITE(F, '{line}'); WRITELN('Both are packed. ');
+  RESET(F);
+  READLN(F, S); WRITELN(S); READ(F, S); WRITELN(S)
+END.
+"""
+
+
+def try_in_a_file():
+    """Texts that are written to a file in memory, and read again."""
+    source = random.Random(85)
+    for line in random_lines(source):
+        quoted = line.replace("'", "''")
+        for is_packed in (False, True):
+            text = IN_A_FILE.replace("{line}", quoted)
+            found = run(compile_text(text, "p.pas", Options(is_packed=is_packed)).data, "")
+            wanted = f"Both are packed. Both are packed. \n{line}\n{line}\n"
+            must(found == (wanted, ""), f"{is_packed}: {found} is not {wanted!r}")
+    passed("packed texts are the same in a file")
+
+
 def try_room():
     """An equal text takes two bytes more, and a packed one at most 1.25 bytes a character with what
     writes it."""
@@ -72,4 +97,4 @@ def try_too_large():
     passed(f"{LINES} lines that have no room are packed, and twice as many are refused")
 
 
-TESTS = (try_written, try_room, try_too_large)
+TESTS = (try_written, try_in_a_file, try_room, try_too_large)

@@ -46,6 +46,11 @@ FUNCTION F; BEGIN F := X; IF X = 3 THEN EXIT(P) END;""", "X := 9; P; WRITE(X:0:1
      "READLN(X, Y, I); WRITE(X:0:3, ' ', Y:0:3, I); READLN(X); READLN(Y); WRITE(X, Y)",
      " 2.5 -1e-2 7\n+.5E+1\nx\n",
      " 2.5 -1e-2 7\n2.500 -0.0107+.5E+1\nx\n 5.00000 0.00000", ""),
+    # The REALs on both sides of 529533200 are 529533184 and 529533216, and the first is even.
+    ("READ of a number between two REALs", REALS,
+     "READLN(X); READLN(Y); WRITELN(X:0:1, ' ', Y:0:1); READ(X); WRITE(X:0:1)",
+     "529533200.000\n529533200\n529533200.0000001\n", "529533200.000\n529533200\n"
+     "529533184.0 529533184.0\n529533200.0000001\n529533216.0", ""),
     ("a backspace in a REAL", REALS, "READLN(X); WRITE(X:0:2)", "1.5\b\b2.7\n",
      "1.5\b \b\b \b2.7\n12.70", ""),
     ("error 6: a division by 0", REALS, "Y := 0; WRITE('A'); X := 1 / Y", "", "A", ERROR + " 6"),

@@ -227,6 +227,11 @@ BEGIN
     END
 END;
 
+PROCEDURE TRIM;                  { words of 0 at the end, behind the point, go }
+BEGIN
+  WHILE (DLAST > UNITS) AND (DECIMALS[DLAST] = 0) DO DLAST := DLAST - 1
+END;
+
 { The next five bits of what is behind the point }
 FUNCTION CHUNK: INTEGER;
 BEGIN
@@ -234,7 +239,7 @@ BEGIN
   IF DFIRST <= DLAST THEN
     BEGIN
       TIMES(32, 0);
-      WHILE (DLAST > UNITS) AND (DECIMALS[DLAST] = 0) DO DLAST := DLAST - 1;
+      TRIM;
       IF DFIRST = UNITS THEN
         BEGIN
           CHUNK := DECIMALS[UNITS];
@@ -273,6 +278,7 @@ BEGIN
       P := P - ORD(C[1] = 0)
     UNTIL (C[1] > 0) OR (P < -31);
   FOR I := N + ORD(N = 0) + 1 TO 6 DO C[I] := CHUNK;
+  TRIM;
   IF DFIRST <= DLAST THEN STICKY := TRUE;
   P := 5 * P + 131;
   N := 32 * C[1] + C[2];
