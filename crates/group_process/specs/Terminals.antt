@@ -24,8 +24,9 @@ abbrev pub shown_after : List ℕ → TerminalRun → List ℕ
 shown_after shown run = shown_before shown run ++ run.wrote
 
 -- A run that was told how many bytes its terminal has. It wrote released bytes from this number on,
--- in order. What it had not yet written at its end is lost.
--- Forbids: a byte that is written twice or left out, or that was not released.
+-- in order, up to some byte. What it had not written at its end is lost.
+-- Allows: nothing is written.
+-- Forbids: a byte that is written twice, or left out before another one; one that was not released.
 pub record WritesAt (shown : List ℕ) (run : TerminalRun) : Type 0 where
   pub told : run.seen ≡ length (shown_before shown run)
   pub wrote : IsPrefix run.wrote (drop run.seen run.released)
@@ -57,8 +58,8 @@ pub record AreAtTerminal (starts : List Attempt) (runs : List TerminalRun) : Typ
   pub writes : WriteInTurn [] runs
 
 -- The terminal of each node shows the front of its console.
--- Allows: a byte that was lost, and is not there yet.
--- Forbids: a byte that is there twice, or is left out.
+-- Allows: bytes at the end of the console that are not on the terminal yet.
+-- Forbids: a byte that is there twice, or left out before another one.
 abbrev pub TerminalsShowConsoles : (ℕ → List Attempt) → List Member → Type 0
 TerminalsShowConsoles starts now =
     (i : ℕ) (m : Member) (runs : List TerminalRun) → member_at now i ≡ Some m

@@ -56,9 +56,9 @@ pub record HasGiven (old : KeyboardState) (gift : List Deed) (new : KeyboardStat
   pub stays : new.is_closed ≡ old.is_closed
 
 -- A keyboard that has given these prompts, of what it had left and what has come meanwhile.
--- Allows: anything that comes to one that is not closed.
--- Forbids: a byte or a request that is given and did not come; one that came and is neither given
--- nor left.
+-- Allows: anything that comes to one that is not closed. What that was no contract knows.
+-- Forbids: a byte or a request that is given twice, or that is neither given nor left; at a closed
+-- keyboard, one that it did not have.
 pub record GivesWhatCame (old : KeyboardState) (gift : List Deed) (new : KeyboardState)
     : Type 0 where
   pub came : Remaining

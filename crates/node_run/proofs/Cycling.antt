@@ -11,8 +11,8 @@ use Rattle.group_wire.specs.declared.answers.Turned.{Turned}
 use Rattle.group_wire.specs.Traffic.{Traffic}
 use Rattle.group_wire.specs.Turns.{HasHeard, HasTurned}
 use Rattle.node_run.specs.declared.answering.Answered.{Answered}
-use Rattle.node_run.specs.Answering.{HasAnsweredKeyboard, IsAnsweredBy, room_of}
-use Rattle.node_run.specs.Cycles.{AnswersKeyboard, EndsBeforeRelease, HearsTimes, HearsOnce, HearsAtRest, Rests, TurnsOnce, run_moment}
+use Rattle.node_run.specs.Answering.{AnswersWhatCame, HasAnsweredKeyboard}
+use Rattle.node_run.specs.Cycles.{EndsBeforeRelease, HearsTimes, HearsOnce, HearsAtRest, Rests, TurnsOnce, run_moment}
 use Rattle.node_run.specs.Going.{Around, around}
 
 -- ---- receives
@@ -67,15 +67,8 @@ module _ {S : Type 0} (kind : StoreKind S) (written : Option (List ℕ)) where
       unwritten = refl;
     }))
 
-    -- the answer to the keyboard
-    answered : {new : NodeState S} {to : Around} {answer : Answered} → HasAnsweredKeyboard kind mid new (around u seen) to (Ok answer)
-        → IsAnsweredBy (room_of mid) seen to.keyboard
-        → AnswersKeyboard kind answer (run_moment mid (around u seen) written) (run_moment new to written)
-    answered did all = record { did = did; all = all; unwritten = refl }
-
     module _ {typed : NodeState S} {via : Around} (answer : Answered)
-        (did : HasAnsweredKeyboard kind mid typed (around u seen) via (Ok answer))
-        (all : IsAnsweredBy (room_of mid) seen via.keyboard) where
+        (did : AnswersWhatCame kind answer mid typed (around u seen) via) where
       -- a turn that was refused
       pub turn_ended : {new : NodeState S} {to : Option Traffic} {e : GroupFault} → (f : NodeFault)
           × HasTurned kind typed new via.traffic to (Err f) × (e ≡ group.Node f)
@@ -85,7 +78,7 @@ module _ {S : Type 0} (kind : StoreKind S) (written : Option (List ℕ)) where
         answered = run_moment typed via written;
         answer = answer;
         rests = rested rest looks;
-        answers = answered did all;
+        answers = record { did = did; unwritten = refl };
         fault = f;
         did = turned;
         is = is;
@@ -102,6 +95,6 @@ module _ {S : Type 0} (kind : StoreKind S) (written : Option (List ℕ)) where
         answer = answer;
         turned = turned;
         rests = rested rest looks;
-        answers = answered did all;
+        answers = record { did = did; unwritten = refl };
         turns = record { did = turn; untyped = refl; unwritten = refl };
       }

@@ -61,6 +61,13 @@ came_behind gift left came = same_left _ _ (append_assoc (bytes_in gift) left.by
 gift_twice : (g h : List Deed) (left : Remaining) → before_gift g (before_gift h left) ≡ before_gift (g ++ h) left
 gift_twice g h left = grind (arith, append_assoc, flat_map-append byte_in g h, filter-append, length-append)
 
+-- and so they are where nothing came
+pub given_both : {a b c : KeyboardState} {g h : List Deed} → HasGiven a g b → HasGiven b h c → HasGiven a (g ++ h) c
+given_both {c = c} {g} {h} first second = record {
+  whole = first.whole ∙ ap (before_gift g) second.whole ∙ gift_twice g h c.left;
+  stays = second.stays ∙ first.stays;
+}
+
 pub gift_both : {a b c : KeyboardState} {g h : List Deed} → GivesWhatCame a g b → GivesWhatCame b h c → GivesWhatCame a (g ++ h) c
 gift_both {a} {b} {c} {g} {h} first second = record {
   came = with_more second.came first.came;

@@ -1,5 +1,5 @@
 -- What a keyboard gives, and what is typed of it.
-use Rattle.std.proofs.Common.{◌≡◌, ◌∙◌, inl, inr, ℕ, ◌+◌, ◌<◌, ◌≤◌, nat_lt, true, false, OnOk, List, [], ◌∷◌, ◌++◌, length, map, Option, Result, Ok, Err, refl, sym, ap, subst, arith, append-nil}
+use Rattle.std.proofs.Common.{◌≡◌, ◌∙◌, inl, inr, ℕ, ◌+◌, ◌<◌, ◌≤◌, nat_lt, true, false, IfOk, List, [], ◌∷◌, ◌++◌, length, map, Option, Result, Ok, Err, refl, sym, ap, subst, arith, append-nil}
 use Rattle.std.proofs.lemmas.Bool.Decides.{nat_tests}
 use Rattle.std.proofs.lemmas.List.{length-append, nil_from_length}
 use Rattle.paxos_acceptor.specs.Stores.{StoreKind}
@@ -15,9 +15,9 @@ use Rattle.group_udp.specs.declared.fault.GroupFault.TheVariants as group
 use Rattle.node_run.specs.declared.answering.Answered.{Answered}
 use Rattle.node_run.specs.declared.answering.Answered.TheVariants.{Bytes, Campaigned, CampaignRefused, Ignored}
 use Rattle.node_run.specs.Going.{Around, HasEnded, HasGoneOn, HasReason, around}
-use Rattle.node_run.specs.Answering.{HasCampaignedAsAsked, HasAnsweredKeyboard, HasTypedGiven, IsAnsweredBy, left_once_answered, left_once_given, room_of}
+use Rattle.node_run.specs.Answering.{AnswersSeen, AnswersWhatCame, HasCampaignedAsAsked, HasAnsweredKeyboard, HasTypedGiven, left_once_answered, left_once_given, room_of}
 use Rattle.group_udp.specs.Prompts.{GivesWhatCame, HasGiven, KeyboardState, Remaining, before_gift}
-use Rattle.node_run.proofs.Going.{gift_both, gives_now, looked, not_given, prompted, prompted_lost, prompted_typed, same_left, save_ended}
+use Rattle.node_run.proofs.Going.{gift_both, given_both, gives_now, not_given, prompted, prompted_lost, prompted_typed, same_left, save_ended}
 
 -- where all of some bytes have room, none is left
 none_left : {S : Type 0} {old new : NodeState S} {before after : List ℕ} → HasPressed old new before after (Ok tt)
@@ -100,30 +100,36 @@ none_taken room left none =
     let not : nat_lt 0 left.requests ≡ false = grind (arith, nat_tests) in
     rw not refl
 
+-- what a campaign that was asked for did
+by_answer : {S : Type 0} (kind : StoreKind S) (old new : NodeState S) (t u : Option Traffic) {seen left : KeyboardState}
+    (answer : Answered) → HasGiven seen (Campaign ∷ []) left → HasCampaignedAsAsked kind old new t u (Ok answer)
+    → AnswersSeen kind answer old new t u seen left
+by_answer kind old new t u Bytes given h = absurd h
+by_answer kind old new t u Campaigned given h = (given, h)
+by_answer kind old new t u Ignored given h = (given, h)
+by_answer kind old new t u (CampaignRefused f) given h = (given, h)
+
 -- a request was there
-pub answered_request : {S : Type 0} (host : NodeState S) {old seen new : KeyboardState} → GivesWhatCame old [] seen
-    → HasGiven seen (Campaign ∷ []) new
-    → IsAnsweredBy (room_of host) old new
-answered_request host {old} {seen} {new} look given = record {
-  came = look.came;
-  left = sym (request_taken (room_of host) new.left) ∙ ap (left_once_answered (room_of host)) (sym given.whole ∙ looked look);
-  none_came = look.none_came;
-  stays = given.stays ∙ look.stays;
+pub answered_request : {S : Type 0} (kind : StoreKind S) (old new : NodeState S) (t u : Option Traffic) {keys seen left : KeyboardState}
+    (result : Result Answered GroupFault) → GivesWhatCame keys [] seen → HasGiven seen (Campaign ∷ []) left
+    → HasCampaignedAsAsked kind old new t u result
+    → IfOk result (λ answer. AnswersWhatCame kind answer old new (around t keys) (around u left))
+answered_request kind old new t u {seen = seen} {left} (Ok answer) look given h = record {
+  seen = seen;
+  looks = look;
+  did = by_answer kind old new t u answer given h;
+  all = sym (request_taken (room_of old) left.left) ∙ ap (left_once_answered (room_of old)) (sym given.whole);
 }
+answered_request kind old new t u (Err e) look given h = tt
 
 -- none was there
-pub answered_bytes : {S : Type 0} (host : NodeState S) {old seen via new : KeyboardState} → GivesWhatCame old [] seen → HasGiven seen [] via
-    → ¬ (0 < seen.left.requests) → new.left ≡ left_once_given (room_of host) via.left → new.is_closed ≡ via.is_closed
-    → IsAnsweredBy (room_of host) old new
-answered_bytes host {old} {seen} {via} {new} look given none typed same = record {
-  came = look.came;
-  left = typed ∙ ap (left_once_given (room_of host)) (not_given given)
-      ∙ sym (none_taken (room_of host) seen.left none) ∙ ap (left_once_answered (room_of host)) (looked look);
-  none_came = look.none_came;
-  stays = same ∙ given.stays ∙ look.stays;
+pub answered_bytes : {S : Type 0} (kind : StoreKind S) {old new : NodeState S} (at : Option Traffic)
+    {keys seen via left : KeyboardState} → GivesWhatCame keys [] seen → HasGiven seen [] via → ¬ (0 < seen.left.requests)
+    → left.left ≡ left_once_given (room_of old) via.left → HasTypedGiven old new via left (Ok tt)
+    → AnswersWhatCame kind Bytes old new (around at keys) (around at left)
+answered_bytes kind {old} at {seen = seen} look given none all (typed, typed_of, acts) = record {
+  seen = seen;
+  looks = look;
+  did = (typed, given_both given typed_of, acts at);
+  all = all ∙ ap (left_once_given (room_of old)) (not_given given) ∙ sym (none_taken (room_of old) seen.left none);
 }
-
--- what holds at each answer
-pub at_ok : {A E : Type 0} (r : Result A E) {P : Type 0} → P → OnOk r P
-at_ok (Ok x) h = h
-at_ok (Err e) h = tt

@@ -15,7 +15,7 @@ use Rattle.group_udp.specs.declared.fault.GroupFault.TheVariants as group
 use Rattle.node_run.specs.declared.answering.Answered.{Answered}
 use Rattle.node_run.specs.declared.answering.Answered.TheVariants.{Bytes, Campaigned, CampaignRefused, Ignored}
 use Rattle.node_run.specs.Going.{Around, FailsAt, HasEnded, HasReason}
-use Rattle.group_udp.specs.Prompts.{GivesWhatCame, HasGiven, KeyboardState, Remaining, no_keys, with_more}
+use Rattle.group_udp.specs.Prompts.{GivesWhatCame, HasGiven, KeyboardState, Remaining}
 use Rattle.group_udp.specs.Refusals.{IsCycleRefusal}
 
 -- A node that leads without a gap: each vote of its record is at a place below its known front.
@@ -46,15 +46,6 @@ left_once_answered room left =
     if nat_lt 0 left.requests then record left { requests = left.requests - 1 }
     else left_once_given room left
 
--- A keyboard that was looked at, and then answered by a node with this room for keys: by a request
--- that is there, or else by all bytes for which there is room.
--- Forbids: a request or a byte that is passed over, though it has come.
-pub record IsAnsweredBy (room : ℕ) (old new : KeyboardState) : Type 0 where
-  pub came : Remaining
-  pub left : new.left ≡ left_once_answered room (with_more came old.left)
-  pub none_came : old.is_closed ≡ true → came ≡ no_keys
-  pub stays : new.is_closed ≡ old.is_closed
-
 -- How many keys a node has room for.
 abbrev pub room_of : {S : Type 0} → NodeState S → ℕ
 room_of n = MOST_WAITING - length n.protocol.known.waiting
@@ -78,6 +69,26 @@ HasCampaignedAsAsked kind old new from to (Ok (CampaignRefused f)) =
     × HasActed old new from to []
 HasCampaignedAsAsked kind old new from to (Err e) =
     (¬ LeadsWithoutGap old.protocol.known) × FailsAt kind old new from to (Campaign ∷ []) e
+
+-- What a node did with what its keyboard had once it was looked at: it typed these bytes; or it
+-- campaigned, could not, or leads already, as the answer says.
+abbrev pub AnswersSeen : {S : Type 0} → StoreKind S → Answered → NodeState S → NodeState S
+    → Option Traffic → Option Traffic → KeyboardState → KeyboardState → Type 0
+AnswersSeen kind Bytes old new from to seen left =
+    (typed : List ℕ) × HasGiven seen (map Press typed) left
+    × HasActed old new from to (map Press typed)
+AnswersSeen kind answer old new from to seen left =
+    HasGiven seen (Campaign ∷ []) left × HasCampaignedAsAsked kind old new from to (Ok answer)
+
+-- A keyboard that is looked at, and then answered by what it has: by a request, if one is there, or
+-- else by all bytes for which the node has room.
+-- Forbids: a request that is there and passed over; a byte for which there is room, likewise.
+pub record AnswersWhatCame {S : Type 0} (kind : StoreKind S) (answer : Answered)
+    (old new : NodeState S) (from to : Around) : Type 0 where
+  pub seen : KeyboardState
+  pub looks : GivesWhatCame from.keyboard [] seen
+  pub did : AnswersSeen kind answer old new from.traffic to.traffic seen to.keyboard
+  pub all : to.keyboard.left ≡ left_once_answered (room_of old) seen.left
 
 -- What happens at a keyboard before a turn: typing of what it gave, or a campaign that it asked
 -- for, as the answer says.

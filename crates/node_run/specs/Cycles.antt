@@ -12,7 +12,7 @@ use Rattle.group_wire.specs.Traffic.{Traffic}
 use Rattle.group_wire.specs.Turns.{HasHeard, HasTurned}
 use Rattle.node_run.specs.declared.answering.Answered.{Answered}
 use Rattle.node_run.specs.declared.cycles.RunPlan.{RunPlan}
-use Rattle.node_run.specs.Answering.{HasAnsweredKeyboard, IsAnsweredBy, room_of}
+use Rattle.node_run.specs.Answering.{AnswersWhatCame, HasAnsweredKeyboard}
 use Rattle.node_run.specs.Going.{Around, CampaignsIf}
 use Rattle.node_run.specs.Releases.{HasReleased}
 
@@ -64,10 +64,9 @@ pub record Rests {S : Type 0} (kind : StoreKind S) (a b : RunMoment S) : Type 0 
 
 -- The keyboard is looked at and answered: the node campaigns, or types all bytes for which it has
 -- room.
-pub record AnswersKeyboard {S : Type 0} (kind : StoreKind S) (answer : Answered) (a b : RunMoment S)
-    : Type 0 where
-  pub did : HasAnsweredKeyboard kind a.node b.node a.around b.around (Ok answer)
-  pub all : IsAnsweredBy (room_of a.node) a.around.keyboard b.around.keyboard
+pub record AnswersKeyboard {S : Type 0} (kind : StoreKind S) (answer : Answered)
+    (a b : RunMoment S) : Type 0 where
+  pub did : AnswersWhatCame kind answer a.node b.node a.around b.around
   pub unwritten : b.written ≡ a.written
 
 -- A turn: the node hears, ticks, and runs its machine.

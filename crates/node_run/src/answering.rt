@@ -1,8 +1,8 @@
 //! What a node does with what its keyboard gives before a turn.
-ghost use Rattle.std.specs.Prelude.{◌≡◌, ◌<◌, ◌↔◌, false, IsTrue, OnOk};
+ghost use Rattle.std.specs.Prelude.{◌≡◌, ◌<◌, ◌↔◌, false, IfOk, IsTrue, OnOk};
 ghost use Rattle.group_wire.specs.Turns.{SameReleased};
 ghost use Rattle.node_run.specs.Going.{around_of};
-ghost use Rattle.node_run.specs.Answering.{HasAnsweredKeyboard, HasCampaignedAsAsked, HasTypedGiven, IsAnsweredBy, LeadsWithoutGap, left_once_given, room_of};
+ghost use Rattle.node_run.specs.Answering.{AnswersWhatCame, HasAnsweredKeyboard, HasCampaignedAsAsked, HasTypedGiven, LeadsWithoutGap, left_once_given, room_of};
 
 use crate::endpoints::Endpoints;
 use group_node::{Node, NodeFault};
@@ -105,8 +105,8 @@ pub fn answer_keyboard<T: Wire, K: Keyboard, S: Store>(
     ensures answered { HasAnsweredKeyboard S.kind host.old host.new
         (around_of T.traffic K.keys endpoints.old)
         (around_of T.traffic K.keys endpoints.new) result }
-    ensures takes { OnOk result (IsAnsweredBy (room_of host.old) (K.keys endpoints.old.keyboard)
-        (K.keys endpoints.new.keyboard)) }
+    ensures takes { IfOk result (λ answer. AnswersWhatCame S.kind answer host.old host.new
+        (around_of T.traffic K.keys endpoints.old) (around_of T.traffic K.keys endpoints.new)) }
     ensures stays { SameReleased host.old host.new }
     ensures progress { host.new.progress ≡ host.old.progress }
 {

@@ -1,7 +1,7 @@
 use Rattle.std.proofs.Common.{arith}
 use Rattle.std.proofs.lemmas.Result.{err_from_is_err_and}
 use Rattle.node_run.proofs.Going.{gift_both, gives_now}
-use Rattle.node_run.proofs.KeyboardAnswers.{answered_bytes, answered_request, asked_answered, at_ok, bytes_answered, bytes_refused}
+use Rattle.node_run.proofs.KeyboardAnswers.{answered_bytes, answered_request, asked_answered, bytes_answered, bytes_refused}
 use Rattle.node_run.proofs.answering.answer_keyboard.Goals as goal
 
 pub returns-then-take_request-clause-answered : goal.returns-then-take_request-clause-answered
@@ -11,8 +11,8 @@ returns-then-take_request-clause-answered g c =
 
 pub returns-then-take_request-clause-takes : goal.returns-then-take_request-clause-takes
 returns-then-take_request-clause-takes g c =
-    at_ok c.campaign_when_asked.result
-    (answered_request c.args.host.now c.look.ensures.came (rw c.if-take_request.true at c.take_request.ensures.asked))
+    answered_request g.S.Store.kind _ _ _ _ c.campaign_when_asked.result c.look.ensures.came
+    (rw c.if-take_request.true at c.take_request.ensures.asked) c.campaign_when_asked.ensures.campaigned
 
 pub returns-in_err-type_given-clause-answered : goal.returns-in_err-type_given-clause-answered
 returns-in_err-type_given-clause-answered g c =
@@ -29,6 +29,7 @@ returns-clause-answered g c =
 
 pub returns-clause-takes : goal.returns-clause-takes
 returns-clause-takes g c =
-    answered_bytes c.args.host.now c.look.ensures.came (rw c.if-take_request.false at c.take_request.ensures.asked)
+    rw c.in_ok-type_given.ensures.passed
+    (answered_bytes g.S.Store.kind _ c.look.ensures.came (rw c.if-take_request.false at c.take_request.ensures.asked)
     (λ some. let is = c.take_request.ensures.taken some in grind arith) c.in_ok-type_given.ensures.takes
-    c.in_ok-type_given.ensures.typed.1.stays
+    c.in_ok-type_given.ensures.typed)

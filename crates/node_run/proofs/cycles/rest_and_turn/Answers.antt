@@ -51,10 +51,10 @@ returns-in_err-ran-clause-turns g c written =
     let p = err_from_is_err_and c.from_residual-in_err-ran.result c.from_residual-in_err-ran.ensures.1 in
     rw (p.1, p.2)
     (turn_ended g.S.Store.kind written c.in_ok-rest_unless_busy.ensures.hears c.in_ok-rest_unless_busy.ensures.looks
-    c.in_ok-answered.answered c.in_ok-answered.ensures.answered c.in_ok-answered.ensures.takes c.in_err-ran.ensures.fault)
+    c.in_ok-answered.answered c.in_ok-answered.ensures.takes c.in_err-ran.ensures.fault)
 
 pub returns-clause-turns : goal.returns-clause-turns
 returns-clause-turns g c written =
     rw c.note_wire.ensures.passed
     (turned_once g.S.Store.kind written c.in_ok-rest_unless_busy.ensures.hears c.in_ok-rest_unless_busy.ensures.looks
-    c.in_ok-answered.answered c.in_ok-answered.ensures.answered c.in_ok-answered.ensures.takes c.in_ok-ran.ensures.turned.1)
+    c.in_ok-answered.answered c.in_ok-answered.ensures.takes c.in_ok-ran.ensures.turned.1)
