@@ -56,8 +56,10 @@ def check_views(_folder):
         # No text for other programs says more.
         majority = {True: "true", False: "false", None: "null"}[view.has_majority()]
         is_so = f'"majority": {majority},' in json_of(view)
-        is_said = "\npgroup_majority{" in metrics_of(view)
-        expect(f"{what}: as JSON and as metrics", is_so and is_said == (majority != "null"))
+        is_known, metrics = majority != "null", metrics_of(view)
+        is_said = ("\npgroup_majority{" in metrics) == is_known
+        is_said &= f'\npgroup_majority_known{{session="7"}} {int(is_known)}\n' in metrics
+        expect(f"{what}: as JSON and as metrics", is_so and is_said, metrics)
 
 
 def longest():

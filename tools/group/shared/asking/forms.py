@@ -69,6 +69,8 @@ def metrics_of(view):
     leader = view.leader()
     number = leader.node if leader else 0 if view.leads_nobody() else None
     parts = [
+        metric("majority_known", "whether it is known if a majority of the nodes is up",
+               [(whole, view.has_majority() is not None)]),
         metric("majority", "whether a majority of the nodes is up", [(whole, view.has_majority())]),
         metric("leader", "the node that leads; 0 is nobody", [(whole, number)]),
         metric("node_answers", "whether the node's supervisor has answered",
