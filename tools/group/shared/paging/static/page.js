@@ -1,7 +1,7 @@
 // The page of a group that runs: it shows its token, takes the stream of events, and hands each
 // event on.
 import { $, beginTheme } from "./look.js";
-import { clearSaid, list, say, setAhead } from "./said.js";
+import { beginSaid, clearSaid, list, say, setAhead } from "./said.js";
 import { beginScreen, clearScreen, showScreen } from "./screen.js";
 import { enter } from "./enter.js";
 import { beginKeys, focusKeys, knownAs, myName } from "./keys.js";
@@ -81,6 +81,7 @@ async function again() {
 async function begin() {
   beginTheme();
   beginScreen();
+  beginSaid();
   beginKeys();
   beginNodes();
   const had = location.hash !== "", why = await enter();
