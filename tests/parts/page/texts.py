@@ -1,6 +1,6 @@
 """What a page says of a group and of its nodes, in sentences, for tests/page."""
 
-from shared.paging.heading import due_of, heading_of
+from shared.paging.heading import due_of, heading_of, still_of
 from shared.paging.lanes import told_of
 
 from ..checks import expect
@@ -25,8 +25,13 @@ def check_heading(_):
         found = heading_of(nodes(*states), size, leader, nobody)
         expect(what, found == what, found)
     due = due_of(nodes("down", "up", "up", "stopped", "down"), 5, True)
-    wanted = "2 of 5 nodes run, and it takes 3: keys that you type wait until then."
+    wanted = "2 of 5 nodes run, and it takes 3: typed keys wait until then."
     expect("what is due without a majority", due == {"text": wanted, "at": None}, due)
+    moved = "node 1 has ended: the session continues at node 2, and its console is shown."
+    still = moved.replace("the session continues at", "your session is at")
+    for is_still, wanted in ((False, moved), (True, still)):
+        found = still_of(moved, is_still)
+        expect("what is said of a session that has moved", found == wanted, found)
 
 
 def check_told(_):

@@ -38,12 +38,21 @@ def due_of(nodes, size, is_nobody):
     if majority is False:
         up, least = len(runs(nodes)), size // 2 + 1
         runs_now = f"{up} of {size} nodes run, and it takes {least}"
-        return {"text": f"{runs_now}: keys that you type wait until then.", "at": None}
+        return {"text": f"{runs_now}: typed keys wait until then.", "at": None}
     best = best_of(nodes)
-    text = "Nobody leads: keys that you type wait."
+    text = "Nobody leads: typed keys wait."
     if best is None:
         return {"text": text, "at": None}
     return {"text": text, "at": best["at"], "node": best["node"]}
+
+
+def still_of(text, is_still):
+    """What the session says, for a page that others watch: and no more than is so while nobody
+    leads, or no majority runs."""
+    text = text.replace("Keys that you type wait here.", "Typed keys wait here.")
+    if not is_still:
+        return text
+    return text.replace("the session continues at node", "your session is at node")
 
 
 def best_of(nodes):

@@ -14,7 +14,7 @@ from ..sitting.session import Session
 from ..terminal import Terminal
 from .clients import Clients
 from .counts import Counted
-from .heading import due_of, heading_of
+from .heading import due_of, heading_of, majority_of, still_of
 from .lanes import Lane, Marks, now
 
 # How often the session looks, in seconds: for some time after a key, while keys wait, and at the
@@ -119,9 +119,10 @@ class Table:
         is_due = bool(said or orders) or time.monotonic() - self.shot >= SHOT
         with self.changed:
             before = self.version
-            self.note(data, said)
+            self.note(data)
             if is_due:
                 self.look()
+            self.note_said(said)
             if self.version != before:
                 self.changed.notify_all()
         return is_new, is_new or time.monotonic() - self.typed < AWAKE
@@ -138,15 +139,22 @@ class Table:
         while not self.wake.wait(REST) and time.monotonic() < until and seat.size() == size:
             pass
 
-    def note(self, data, said):
+    def note(self, data):
         if data:
             data = self.screen.translated(data) if self.screen else data
             self.terminal.write(self.decoder.decode(data))
             self.screens += 1
             self.version += 1
-        for kind, text in said:
-            self.note_sentence(kind, text)
         self.held = len(self.session.held)
+
+    def note_said(self, said):
+        """Notes what the session has said, by what the nodes are now."""
+        if not said:
+            return
+        shots = self.group["nodes"]
+        is_still = not self.group["is_led"] or majority_of(shots, self.size(len(shots))) is False
+        for kind, text in said:
+            self.note_sentence(kind, still_of(text, is_still))
 
     def note_sentence(self, kind, text):
         self.said += 1

@@ -1,6 +1,6 @@
 // The nodes: a card and a lane for each, and what a person can do about the group.
 import { $, draw, make, many } from "./look.js";
-import { say, serverNow } from "./said.js";
+import { dropEnds, say, serverNow } from "./said.js";
 import { ask } from "./enter.js";
 import { focusKeys } from "./keys.js";
 import { Lane } from "./lanes.js";
@@ -108,6 +108,7 @@ export function showGroup(told) {
   $("at").textContent = group.seat === null ? "at no node of this machine" : `at ${group.name}`;
   $("waits").textContent = waits + (waits && group.why ? `: ${group.why}` : "");
   showDue();
+  dropEnds(group.nodes.filter((it) => ["up", "leads"].includes(it.state)).map((it) => it.node));
   drawLanes();
 }
 

@@ -18,6 +18,12 @@ export function say(text, kind = "", when = serverNow()) {
   noteEnds = setTimeout(() => ($("note").hidden = true), kind === "note" ? 5000 : FRESH);
 }
 
+// What has been said below the console of the end of a node goes once it is up again.
+export function dropEnds(up) {
+  const ended = /\bnode (\d) (has ended|does not run|is stopped)/i.exec($("note").textContent);
+  if (ended && up.includes(+ended[1])) $("note").hidden = true;
+}
+
 // A line in the order of time.
 export function list(text, kind, when) {
   const box = $("said"), line = make("p", kind), time = make("time", "", clock(when));
