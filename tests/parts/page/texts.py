@@ -1,6 +1,6 @@
 """What a page says of a group and of its nodes, in sentences, for tests/page."""
 
-from shared.paging.heading import due_of, heading_of, still_of
+from shared.paging.heading import due_of, flow_of, heading_of, still_of
 from shared.paging.lanes import told_of
 
 from ..checks import expect
@@ -27,6 +27,15 @@ def check_heading(_):
     due = due_of(nodes("down", "up", "up", "stopped", "down"), 5, True)
     wanted = "2 of 5 nodes run, and it takes 3: typed keys wait until then."
     expect("what is due without a majority", due == {"text": wanted, "at": None}, due)
+    run, ended = nodes("leads", "up", "down"), [{"node": 1, "state": "up", "end": "ended"}]
+    for what, of, nobody, wanted in (
+        ("while one leads", run, False, "goes"), ("while nobody leads", run, True, "waits"),
+        ("without a majority", nodes("leads", "down", "down"), False, "waits"),
+        ("where that is unknown", nodes("up"), False, "goes"),
+        ("of a program that has ended", ended, True, "ended"),
+    ):
+        found = flow_of(of, 3, nobody)
+        expect(f"what becomes of keys {what}", found == wanted, found)
     moved = "node 1 has ended: the session continues at node 2, and its console is shown."
     still = moved.replace("the session continues at", "your session is at")
     for is_still, wanted in ((False, moved), (True, still)):

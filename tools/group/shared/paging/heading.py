@@ -30,6 +30,13 @@ def heading_of(nodes, size, leader, is_nobody):
     return f"{up} of {size} nodes {run}, {majority}; {who}{ended}"
 
 
+def flow_of(nodes, size, is_nobody):
+    """What becomes of what is typed: it `goes` on, it `waits`, or the program has `ended`."""
+    if any(it.get("end") for it in nodes):
+        return "ended"
+    return "waits" if is_nobody or majority_of(nodes, size) is False else "goes"
+
+
 def due_of(nodes, size, is_nobody):
     """What a person can do: a sentence, and the node that is best asked to lead, or None."""
     if not is_nobody:

@@ -14,7 +14,7 @@ from ..sitting.session import Session
 from ..terminal import Terminal
 from .clients import Clients
 from .counts import Counted
-from .heading import due_of, heading_of, majority_of, still_of
+from .heading import due_of, flow_of, heading_of, still_of
 from .lanes import Lane, Marks, now
 
 # How often the session looks, in seconds: for some time after a key, while keys wait, and at the
@@ -151,8 +151,7 @@ class Table:
         """Notes what the session has said, by what the nodes are now."""
         if not said:
             return
-        shots = self.group["nodes"]
-        is_still = not self.group["is_led"] or majority_of(shots, self.size(len(shots))) is False
+        is_still = not self.group["is_led"] or self.group["flow"] != "goes"
         for kind, text in said:
             self.note_sentence(kind, still_of(text, is_still))
 
@@ -203,7 +202,8 @@ class Table:
         leads = f"node {leader.node} leads, ballot {text_of_ballot(leader)}" if leader else None
         return {
             "nodes": nodes, "heading": heading_of(nodes, size, leads, leader is False),
-            "is_led": bool(leader), "due": due_of(nodes, size, leader is False),
+            "is_led": bool(leader), "flow": flow_of(nodes, size, leader is False),
+            "due": due_of(nodes, size, leader is False),
             "session": self.view.session if self.view else session.number,
             "used": self.used(), "places": PLACES,
             "seat": session.at if self.has_seat and not session.away else None,

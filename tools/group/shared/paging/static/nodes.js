@@ -9,6 +9,7 @@ import { followCursor } from "./screen.js";
 const FEW = 5;
 const STATES = { up: "runs", leads: "leads", down: "does not run", stopped: "is stopped",
   unknown: "is unknown" };
+const FLOWS = { goes: "", waits: "keys wait", ended: "the program has ended" };
 // The cards by the numbers of the lanes, and the group as it was told last.
 let cards = new Map(), group = null, role = "watch";
 
@@ -103,13 +104,23 @@ export function showGroup(told) {
   $("heading").className = group.is_led ? "" : "bad";
   $("session").textContent = group.session === null ? "" : `session ${group.session}`;
   showUsed();
+  showFlow();
   const verb = group.waiting === 1 ? "waits" : "wait";
   const waits = group.waiting ? `${many(group.waiting, "key")} ${verb}` : "";
   $("at").textContent = group.seat === null ? "at no node of this machine" : `at ${group.name}`;
-  $("waits").textContent = waits + (waits && group.why ? `: ${group.why}` : "");
+  $("waits").textContent = waits ? waits + (group.why ? `: ${group.why}` : "") : FLOWS[group.flow];
   showDue();
   dropEnds(group.nodes.filter((it) => ["up", "leads"].includes(it.state)).map((it) => it.node));
   drawLanes();
+}
+
+// The sign at the console, and what is said to who types, by what becomes of typed keys.
+function showFlow() {
+  const { flow, seat } = group, mine = role === "type" ? "you type" : "you watch";
+  $("dot").className = `dot on ${seat === null ? "none" : ""} ${flow}`;
+  $("role").textContent = role === "type" && FLOWS[flow] || mine;
+  $("role").className = `role ${role} ${flow}`;
+  $("left").classList.toggle("ended", flow === "ended");
 }
 
 function showUsed() {
