@@ -24,6 +24,7 @@ SOON, LATE, AWAKE, REST, LOOK = 0.002, 0.02, 0.5, 0.04, 0.15
 SHOT = 0.1
 # How many bytes of keys may wait here, and how many sentences are kept.
 MOST, SENTENCES = 1 << 16, 200
+ENDED = "The program has ended: it reads no keys any more."
 # How long a request that the session has to do may take, in seconds.
 PATIENCE = 10.0
 
@@ -62,7 +63,9 @@ class Table:
             if number != last[0] + 1:
                 return 409, f"The keys with number {last[0] + 1} are expected, not {number}."
             waiting = self.held + len(self.keys)
-            if waiting + len(keys) > MOST:
+            if self.group and self.group["flow"] == "ended":
+                answer = 409, ENDED
+            elif waiting + len(keys) > MOST:
                 answer = 409, f"{waiting} keys wait here already: nothing is chosen."
             else:
                 answer = 200, None

@@ -2,7 +2,7 @@
 import { $, draw, make, many } from "./look.js";
 import { dropEnds, say, serverNow } from "./said.js";
 import { ask } from "./enter.js";
-import { focusKeys } from "./keys.js";
+import { focusKeys, setEnded } from "./keys.js";
 import { Lane } from "./lanes.js";
 import { followCursor } from "./screen.js";
 
@@ -121,6 +121,7 @@ function showFlow() {
   $("role").textContent = role === "type" && FLOWS[flow] || mine;
   $("role").className = `role ${role} ${flow}`;
   $("left").classList.toggle("ended", flow === "ended");
+  setEnded(flow === "ended");
 }
 
 function showUsed() {
