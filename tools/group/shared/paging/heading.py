@@ -1,6 +1,9 @@
 """The sentence above a page that says how its group is, and what is to be done about it."""
 
 RUNS = ("up", "leads")
+ASKED = "A supervisor asks a node by itself within seconds."
+PERHAPS = "If supervisors run, one of them asks a node within seconds."
+STARTED = "Supervisors start nodes again; otherwise start them on their machines."
 
 
 def runs(nodes):
@@ -37,17 +40,38 @@ def flow_of(nodes, size, is_nobody):
     return "waits" if is_nobody or majority_of(nodes, size) is False else "goes"
 
 
-def due_of(nodes, size, is_nobody):
-    """What a person can do: a sentence, and the node that is best asked to lead, or None."""
+def why_not_asked(node, is_majority):
+    """Why a node cannot be asked to lead now, or None."""
+    reasons = {
+        "leads": "it leads already", "down": "it does not run", "stopped": "it is stopped",
+        "unknown": "nothing is known of it",
+    }
+    if node["state"] in reasons:
+        return reasons[node["state"]]
+    if is_majority is False:
+        return "no majority runs"
+    return None if node.get("can_lead") else "its address for keys is not known here"
+
+
+def with_reasons(nodes, size):
+    """The nodes, each with why it cannot be asked to lead."""
+    is_majority = majority_of(nodes, size)
+    whys = [why_not_asked(it, is_majority) for it in nodes]
+    return [{**it, "can_lead": why is None, "why_not": why} for it, why in zip(nodes, whys)]
+
+
+def due_of(nodes, size, is_nobody, is_supervised=False):
+    """What a person can do: a sentence, and the node that is best asked to lead, or None. It says
+    what supervisors do as a fact where one is known to run."""
     if not is_nobody:
         return None
     majority = majority_of(nodes, size)
     if majority is False:
         up, least = len(runs(nodes)), size // 2 + 1
         runs_now = f"{up} of {size} nodes run, and it takes {least}"
-        return {"text": f"{runs_now}: typed keys wait until then.", "at": None}
+        return {"text": f"{runs_now}: typed keys wait until then. {STARTED}", "at": None}
     best = best_of(nodes)
-    text = "Nobody leads: typed keys wait."
+    text = f"Nobody leads: typed keys wait. {ASKED if is_supervised else PERHAPS}"
     if best is None:
         return {"text": text, "at": None}
     return {"text": text, "at": best["at"], "node": best["node"]}

@@ -8,13 +8,14 @@ import time
 
 from ..ends import Log, end_of, with_end
 from ..record import text_of_ballot
-from ..watch import file_of, state_of
+from ..watch import file_of, state_of, words_of_process
 
 # How many marks are kept; the most characters of one, and of a console's end.
 MARKS, TEXT, END = 4000, 200, 90
 # How often a node's log is looked at, and after how long without growth a shorter console is
 # behind, in seconds.
 READ, STILL = 0.5, 1.0
+SUPERVISORS = ("supervise", "pgroup-supervise")
 LINE = re.compile(r"(?:^|\s)(\d+\.\d{3}) (?:supervise )?node (\d) (.*)$")
 # What a log says that the lanes do not show by themselves.
 TOLD = re.compile(
@@ -170,6 +171,12 @@ class Lane:
             told = told_of(text) if node == self.number() and when > self.marks.begun else None
             if told:
                 self.marks.add(self.at, "log", told, when)
+
+    def is_supervised(self):
+        """Whether the node runs, and a supervisor has started it."""
+        parent = state_of(self.seat.process[0])[1] if self.seat.process else None
+        words = words_of_process(parent) if parent else []
+        return any(os.path.basename(it) in SUPERVISORS for it in words[:3])
 
     def lag(self, front):
         """How many bytes its console is behind, once it has not grown for a while."""

@@ -14,7 +14,7 @@ from ..sitting.session import Session
 from ..terminal import Terminal
 from .clients import Clients
 from .counts import Counted
-from .heading import due_of, flow_of, heading_of, still_of
+from .heading import due_of, flow_of, heading_of, still_of, with_reasons
 from .lanes import Lane, Marks, now
 
 # How often the session looks, in seconds: for some time after a key, while keys wait, and at the
@@ -195,6 +195,10 @@ class Table:
             said.append(tally.used())
         return max(said, default=None)
 
+    def is_supervised(self):
+        """Whether a supervisor of the group is known to run."""
+        return bool(self.view and self.view.states) or any(it.is_supervised() for it in self.lanes)
+
     def group_now(self, leader):
         """The group for a browser."""
         session = self.session
@@ -202,11 +206,13 @@ class Table:
         nodes = [it.shot(session, front) for it in self.lanes] + self.others
         nodes.sort(key=lambda it: it["node"])
         size, waiting = self.size(len(nodes)), session.waiting()
+        nodes, is_nobody = with_reasons(nodes, size), leader is False
+        due = due_of(nodes, size, is_nobody, is_nobody and self.is_supervised())
         leads = f"node {leader.node} leads, ballot {text_of_ballot(leader)}" if leader else None
         return {
-            "nodes": nodes, "heading": heading_of(nodes, size, leads, leader is False),
-            "is_led": bool(leader), "flow": flow_of(nodes, size, leader is False),
-            "due": due_of(nodes, size, leader is False),
+            "nodes": nodes, "heading": heading_of(nodes, size, leads, is_nobody),
+            "is_led": bool(leader), "flow": flow_of(nodes, size, is_nobody),
+            "due": due,
             "session": self.view.session if self.view else session.number,
             "used": self.used(), "places": PLACES,
             "seat": session.at if self.has_seat and not session.away else None,

@@ -75,7 +75,9 @@ function showCard(node) {
   it.lead.hidden = it.go.hidden = role !== "type";
   it.lead.disabled = !node.can_lead;
   it.go.disabled = !node.can_type || node.at === group.seat;
-  it.lead.setAttribute("aria-label", `Ask ${name} to lead`);
+  const why = node.why_not ? `, which is not possible now: ${node.why_not}` : "";
+  it.lead.title = node.why_not ? `Not possible now: ${node.why_not}` : "";
+  it.lead.setAttribute("aria-label", `Ask ${name} to lead${why}`);
   it.go.setAttribute("aria-label", `Type at ${name}`);
   it.facts.replaceChildren(...facts(node));
   it.svg.setAttribute("aria-label", `The last minute of ${name}`);
@@ -143,7 +145,7 @@ function showDue() {
   box.hidden = false;
   if (text.textContent !== due.text) text.textContent = due.text;
   button.hidden = due.at === null || role !== "type";
-  button.textContent = due.at === null ? "" : `Ask node ${due.node} to lead`;
+  button.textContent = due.at === null ? "" : `or ask node ${due.node} now`;
   button.onclick = () => act("/lead", due.at);
   if (had) followCursor();
 }
