@@ -12,6 +12,7 @@ let stream = null, broken = 0, later = 0, heard = Date.now();
 
 const TOLD = {
   start: (it) => it, crash: (it) => it, held: (it) => it, log: (it) => it,
+  ended: (it) => it,
   leads: (it) => `leads, under ballot ${it}`,
   campaign: (it) => `asks to lead, under ballot ${it}`,
 };
@@ -37,7 +38,7 @@ function noteMarks([time, marks]) {
   setAhead(time);
   for (const [, when, at, kind, text] of marks) {
     const name = note(at, when, kind, text);
-    if (TOLD[kind]) list(`${name} ${TOLD[kind](text)}`, kind, when);
+    if (TOLD[kind] && text) list(`${name} ${TOLD[kind](text)}`, kind, when);
   }
 }
 

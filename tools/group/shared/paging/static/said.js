@@ -9,7 +9,9 @@ export const setAhead = (serverTime) => (ahead = serverTime - Date.now());
 export const serverNow = () => Date.now() + ahead;
 
 export function say(text, kind = "", when = serverNow()) {
-  list(text, kind, when);
+  // That a node has ended has a line of its own.
+  const own = text.replace(/^node \d has ended: /i, "");
+  list(own[0].toUpperCase() + own.slice(1), kind, when);
   if (serverNow() - when > FRESH) return;
   $("note").textContent = text;
   $("note").className = kind;
