@@ -11,7 +11,7 @@ from compiler.checking.symbols import STANDARD_FILES, STANDARD_FUNCTIONS, STANDA
 from compiler.checking.units import APPLESTUFF
 
 PAGE = os.path.join(TOP, "docs", "PASCAL.md")
-HEADING = "| Feature | Here | How, or with which words |"
+HEADING = "| Feature | Here | Details, or the message |"
 CALLS = "VAR N: INTEGER; BEGIN N := {}(1) END."
 # A program for each row that is refused, by the beginning of its first cell.
 REFUSED = {
