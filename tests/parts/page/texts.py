@@ -1,6 +1,6 @@
 """What a page says of a group and of its nodes, in sentences, for tests/page."""
 
-from shared.paging.heading import due_of, heading_of
+from shared.paging.heading import due_of, flow_of, heading_of, still_of, with_reasons
 from shared.paging.lanes import told_of
 
 from ..checks import expect
@@ -25,8 +25,37 @@ def check_heading(_):
         found = heading_of(nodes(*states), size, leader, nobody)
         expect(what, found == what, found)
     due = due_of(nodes("down", "up", "up", "stopped", "down"), 5, True)
-    wanted = "2 of 5 nodes run, and it takes 3: keys that you type wait until then."
+    wanted = "2 of 5 nodes run, and it takes 3: typed keys wait until then. "
+    wanted += "Supervisors start nodes again; otherwise start them on their machines."
     expect("what is due without a majority", due == {"text": wanted, "at": None}, due)
+    for is_supervised, more in (
+        (True, "A supervisor asks a node by itself within seconds."),
+        (False, "If supervisors run, one of them asks a node within seconds."),
+    ):
+        due = due_of(nodes("down", "up", "up"), 3, True, is_supervised)
+        expect(f"what is due, supervised {is_supervised}", due["text"] ==
+               f"Nobody leads: typed keys wait. {more}", due)
+    able = [{**it, "can_lead": it["state"] == "up"} for it in nodes("leads", "up", "down")]
+    for of, wanted in ((able, ["it leads already", None, "it does not run"]),
+                       (able[1:], [None, "it does not run"]),
+                       ([*able[1:], able[2]],
+                        ["no majority runs", "it does not run", "it does not run"])):
+        found = [it["why_not"] for it in with_reasons(of, 3)]
+        expect(f"why nodes are not asked: {wanted}", found == wanted, found)
+    run, ended = nodes("leads", "up", "down"), [{"node": 1, "state": "up", "end": "ended"}]
+    for what, of, nobody, wanted in (
+        ("while one leads", run, False, "goes"), ("while nobody leads", run, True, "waits"),
+        ("without a majority", nodes("leads", "down", "down"), False, "waits"),
+        ("where that is unknown", nodes("up"), False, "goes"),
+        ("of a program that has ended", ended, True, "ended"),
+    ):
+        found = flow_of(of, 3, nobody)
+        expect(f"what becomes of keys {what}", found == wanted, found)
+    moved = "node 1 has ended: the session continues at node 2, and its console is shown."
+    still = moved.replace("the session continues at", "your session is at")
+    for is_still, wanted in ((False, moved), (True, still)):
+        found = still_of(moved, is_still)
+        expect("what is said of a session that has moved", found == wanted, found)
 
 
 def check_told(_):

@@ -8,13 +8,17 @@ import time
 
 from ..ends import Log, end_of, with_end
 from ..record import text_of_ballot
-from ..watch import file_of, state_of
+from ..watch import file_of, state_of, words_of_process
 
 # How many marks are kept; the most characters of one, and of a console's end.
 MARKS, TEXT, END = 4000, 200, 90
 # How often a node's log is looked at, and after how long without growth a shorter console is
 # behind, in seconds.
 READ, STILL = 0.5, 1.0
+# How long a log is waited for to say how a node has ended, and how far what is seen and what it
+# says may be apart, in milliseconds.
+SAID, NEAR = 1500, 3000
+SUPERVISORS = ("supervise", "pgroup-supervise")
 LINE = re.compile(r"(?:^|\s)(\d+\.\d{3}) (?:supervise )?node (\d) (.*)$")
 # What a log says that the lanes do not show by themselves.
 TOLD = re.compile(
@@ -87,6 +91,8 @@ class Lane:
         self.word, self.promised, self.starts, self.was_down = None, None, None, False
         self.size, self.grown, self.shown = None, 0.0, ""
         self.log, self.read, self.logged = None, -READ, None
+        # When it was seen to have ended: while that is not told yet, and once it is.
+        self.died, self.buried = None, None
 
     def number(self):
         it = self.seat.record()
@@ -103,6 +109,8 @@ class Lane:
     def look(self, leader, fresh):
         """Notes what is new. `fresh` are the places at which it has voted since the last look."""
         word = self.state(leader)
+        if self.word == "down" and word != "down":
+            self.marks.add(self.at, "start", "is up")
         self.note_record(fresh, word)
         if word != self.word:
             self.note_word(word)
@@ -110,13 +118,28 @@ class Lane:
         if time.monotonic() - self.read >= READ:
             self.read = time.monotonic()
             self.look_at_log()
+        if self.died and (self.log is None or now() - self.died > SAID):
+            self.tell_death("has ended", self.died)
+
+    def tell_death(self, text, when):
+        """Tells that it has ended, once: as its log says it, or as it was seen."""
+        self.died, self.buried = None, when
+        self.marks.add(self.at, "ended", text, when)
+
+    def note_line(self, told, when):
+        """Notes what a line of the log says."""
+        is_end = told.startswith("ended ")
+        if is_end and self.died and when > self.died - NEAR:
+            return self.tell_death(f"has {told}", min(when, self.died))
+        if is_end and self.buried and abs(when - self.buried) < NEAR:
+            return None  # It was told.
+        return self.marks.add(self.at, "log", told, when)
 
     def note_word(self, word):
         before, self.word = self.word, word
-        if before == "down":
-            self.marks.add(self.at, "start", "is up")
-        elif before and word == "down":
-            self.marks.add(self.at, "crash", "has ended")
+        if before and word == "down":
+            self.died = now()
+            self.marks.add(self.at, "crash", "", self.died)
         elif before and word == "stopped":
             self.marks.add(self.at, "held", "is stopped")
         elif before == "stopped":
@@ -169,7 +192,13 @@ class Lane:
             when, node, text = self.log.lines.popleft()
             told = told_of(text) if node == self.number() and when > self.marks.begun else None
             if told:
-                self.marks.add(self.at, "log", told, when)
+                self.note_line(told, when)
+
+    def is_supervised(self):
+        """Whether the node runs, and a supervisor has started it."""
+        parent = state_of(self.seat.process[0])[1] if self.seat.process else None
+        words = words_of_process(parent) if parent else []
+        return any(os.path.basename(it) in SUPERVISORS for it in words[:3])
 
     def lag(self, front):
         """How many bytes its console is behind, once it has not grown for a while."""

@@ -14,7 +14,7 @@ from ..sitting.session import Session
 from ..terminal import Terminal
 from .clients import Clients
 from .counts import Counted
-from .heading import due_of, heading_of
+from .heading import due_of, flow_of, heading_of, still_of, with_reasons
 from .lanes import Lane, Marks, now
 
 # How often the session looks, in seconds: for some time after a key, while keys wait, and at the
@@ -24,6 +24,7 @@ SOON, LATE, AWAKE, REST, LOOK = 0.002, 0.02, 0.5, 0.04, 0.15
 SHOT = 0.1
 # How many bytes of keys may wait here, and how many sentences are kept.
 MOST, SENTENCES = 1 << 16, 200
+ENDED = "The program has ended: it reads no keys any more."
 # How long a request that the session has to do may take, in seconds.
 PATIENCE = 10.0
 
@@ -62,7 +63,9 @@ class Table:
             if number != last[0] + 1:
                 return 409, f"The keys with number {last[0] + 1} are expected, not {number}."
             waiting = self.held + len(self.keys)
-            if waiting + len(keys) > MOST:
+            if self.group and self.group["flow"] == "ended":
+                answer = 409, ENDED
+            elif waiting + len(keys) > MOST:
                 answer = 409, f"{waiting} keys wait here already: nothing is chosen."
             else:
                 answer = 200, None
@@ -119,9 +122,10 @@ class Table:
         is_due = bool(said or orders) or time.monotonic() - self.shot >= SHOT
         with self.changed:
             before = self.version
-            self.note(data, said)
+            self.note(data)
             if is_due:
                 self.look()
+            self.note_said(said)
             if self.version != before:
                 self.changed.notify_all()
         return is_new, is_new or time.monotonic() - self.typed < AWAKE
@@ -138,15 +142,21 @@ class Table:
         while not self.wake.wait(REST) and time.monotonic() < until and seat.size() == size:
             pass
 
-    def note(self, data, said):
+    def note(self, data):
         if data:
             data = self.screen.translated(data) if self.screen else data
             self.terminal.write(self.decoder.decode(data))
             self.screens += 1
             self.version += 1
-        for kind, text in said:
-            self.note_sentence(kind, text)
         self.held = len(self.session.held)
+
+    def note_said(self, said):
+        """Notes what the session has said, by what the nodes are now."""
+        if not said:
+            return
+        is_still = not self.group["is_led"] or self.group["flow"] != "goes"
+        for kind, text in said:
+            self.note_sentence(kind, still_of(text, is_still))
 
     def note_sentence(self, kind, text):
         self.said += 1
@@ -185,6 +195,10 @@ class Table:
             said.append(tally.used())
         return max(said, default=None)
 
+    def is_supervised(self):
+        """Whether a supervisor of the group is known to run."""
+        return bool(self.view and self.view.states) or any(it.is_supervised() for it in self.lanes)
+
     def group_now(self, leader):
         """The group for a browser."""
         session = self.session
@@ -192,10 +206,13 @@ class Table:
         nodes = [it.shot(session, front) for it in self.lanes] + self.others
         nodes.sort(key=lambda it: it["node"])
         size, waiting = self.size(len(nodes)), session.waiting()
+        nodes, is_nobody = with_reasons(nodes, size), leader is False
+        due = due_of(nodes, size, is_nobody, is_nobody and self.is_supervised())
         leads = f"node {leader.node} leads, ballot {text_of_ballot(leader)}" if leader else None
         return {
-            "nodes": nodes, "heading": heading_of(nodes, size, leads, leader is False),
-            "is_led": bool(leader), "due": due_of(nodes, size, leader is False),
+            "nodes": nodes, "heading": heading_of(nodes, size, leads, is_nobody),
+            "is_led": bool(leader), "flow": flow_of(nodes, size, is_nobody),
+            "due": due,
             "session": self.view.session if self.view else session.number,
             "used": self.used(), "places": PLACES,
             "seat": session.at if self.has_seat and not session.away else None,

@@ -7,6 +7,7 @@ import { followCursor } from "./screen.js";
 
 const MOST = 1000, PASTED = 16000, TWICE = 3000;
 let queue = "", client = "", number = 0, isSending = false, role = "watch", isLf = false, broke = 0;
+let isEnded = false, isToldEnd = false;
 
 const KEYS = {
   escape: "\x1b", tab: "\t", back: "\x7f", up: "\x1b[A", down: "\x1b[B", right: "\x1b[C",
@@ -38,9 +39,21 @@ export function type(text) {
   if (role !== "type") {
     return say("You watch: keys are for those who have the other address.", "bad");
   }
+  if (isEnded) return tellEnd();
   queue += text;
   followCursor();
   if (!isSending) sendAll();
+}
+
+// Once the program has ended nothing is sent, and that is said once.
+export function setEnded(it) {
+  if (it && !isEnded) isToldEnd = false;
+  isEnded = it;
+}
+
+function tellEnd() {
+  if (!isToldEnd) say("The program has ended: it reads no keys any more.", "bad");
+  isToldEnd = true;
 }
 
 function nextKeys() {

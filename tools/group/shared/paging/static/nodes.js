@@ -1,14 +1,15 @@
 // The nodes: a card and a lane for each, and what a person can do about the group.
 import { $, draw, make, many } from "./look.js";
-import { say, serverNow } from "./said.js";
+import { dropEnds, say, serverNow } from "./said.js";
 import { ask } from "./enter.js";
-import { focusKeys } from "./keys.js";
+import { focusKeys, setEnded } from "./keys.js";
 import { Lane } from "./lanes.js";
 import { followCursor } from "./screen.js";
 
 const FEW = 5;
 const STATES = { up: "runs", leads: "leads", down: "does not run", stopped: "is stopped",
   unknown: "is unknown" };
+const FLOWS = { goes: "", waits: "keys wait", ended: "the program has ended" };
 // The cards by the numbers of the lanes, and the group as it was told last.
 let cards = new Map(), group = null, role = "watch";
 
@@ -74,7 +75,9 @@ function showCard(node) {
   it.lead.hidden = it.go.hidden = role !== "type";
   it.lead.disabled = !node.can_lead;
   it.go.disabled = !node.can_type || node.at === group.seat;
-  it.lead.setAttribute("aria-label", `Ask ${name} to lead`);
+  const why = node.why_not ? `, which is not possible now: ${node.why_not}` : "";
+  it.lead.title = node.why_not ? `Not possible now: ${node.why_not}` : "";
+  it.lead.setAttribute("aria-label", `Ask ${name} to lead${why}`);
   it.go.setAttribute("aria-label", `Type at ${name}`);
   it.facts.replaceChildren(...facts(node));
   it.svg.setAttribute("aria-label", `The last minute of ${name}`);
@@ -103,12 +106,24 @@ export function showGroup(told) {
   $("heading").className = group.is_led ? "" : "bad";
   $("session").textContent = group.session === null ? "" : `session ${group.session}`;
   showUsed();
+  showFlow();
   const verb = group.waiting === 1 ? "waits" : "wait";
   const waits = group.waiting ? `${many(group.waiting, "key")} ${verb}` : "";
   $("at").textContent = group.seat === null ? "at no node of this machine" : `at ${group.name}`;
-  $("waits").textContent = waits + (waits && group.why ? `: ${group.why}` : "");
+  $("waits").textContent = waits ? waits + (group.why ? `: ${group.why}` : "") : FLOWS[group.flow];
   showDue();
+  dropEnds(group.nodes.filter((it) => ["up", "leads"].includes(it.state)).map((it) => it.node));
   drawLanes();
+}
+
+// The sign at the console, and what is said to who types, by what becomes of typed keys.
+function showFlow() {
+  const { flow, seat } = group, mine = role === "type" ? "you type" : "you watch";
+  $("dot").className = `dot on ${seat === null ? "none" : ""} ${flow}`;
+  $("role").textContent = role === "type" && FLOWS[flow] || mine;
+  $("role").className = `role ${role} ${flow}`;
+  $("left").classList.toggle("ended", flow === "ended");
+  setEnded(flow === "ended");
 }
 
 function showUsed() {
@@ -130,7 +145,7 @@ function showDue() {
   box.hidden = false;
   if (text.textContent !== due.text) text.textContent = due.text;
   button.hidden = due.at === null || role !== "type";
-  button.textContent = due.at === null ? "" : `Ask node ${due.node} to lead`;
+  button.textContent = due.at === null ? "" : `or ask node ${due.node} now`;
   button.onclick = () => act("/lead", due.at);
   if (had) followCursor();
 }

@@ -1,7 +1,7 @@
 // The page of a group that runs: it shows its token, takes the stream of events, and hands each
 // event on.
 import { $, beginTheme } from "./look.js";
-import { clearSaid, list, say, setAhead } from "./said.js";
+import { beginSaid, clearSaid, list, say, setAhead } from "./said.js";
 import { beginScreen, clearScreen, showScreen } from "./screen.js";
 import { enter } from "./enter.js";
 import { beginKeys, focusKeys, knownAs, myName } from "./keys.js";
@@ -12,6 +12,7 @@ let stream = null, broken = 0, later = 0, heard = Date.now();
 
 const TOLD = {
   start: (it) => it, crash: (it) => it, held: (it) => it, log: (it) => it,
+  ended: (it) => it,
   leads: (it) => `leads, under ballot ${it}`,
   campaign: (it) => `asks to lead, under ballot ${it}`,
 };
@@ -37,7 +38,7 @@ function noteMarks([time, marks]) {
   setAhead(time);
   for (const [, when, at, kind, text] of marks) {
     const name = note(at, when, kind, text);
-    if (TOLD[kind]) list(`${name} ${TOLD[kind](text)}`, kind, when);
+    if (TOLD[kind] && text) list(`${name} ${TOLD[kind](text)}`, kind, when);
   }
 }
 
@@ -81,6 +82,7 @@ async function again() {
 async function begin() {
   beginTheme();
   beginScreen();
+  beginSaid();
   beginKeys();
   beginNodes();
   const had = location.hash !== "", why = await enter();

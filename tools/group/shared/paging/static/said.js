@@ -2,14 +2,16 @@
 import { $, clock, make } from "./look.js";
 
 const KEPT = 100, FRESH = 15000;
-let noteEnds = 0, ahead = 0;
+let noteEnds = 0, ahead = 0, isFollowing = true, shape = "";
 
 // By how much the server's clock is ahead of this one's.
 export const setAhead = (serverTime) => (ahead = serverTime - Date.now());
 export const serverNow = () => Date.now() + ahead;
 
 export function say(text, kind = "", when = serverNow()) {
-  list(text, kind, when);
+  // That a node has ended has a line of its own.
+  const own = text.replace(/^node \d has ended: /i, "");
+  list(own[0].toUpperCase() + own.slice(1), kind, when);
   if (serverNow() - when > FRESH) return;
   $("note").textContent = text;
   $("note").className = kind;
@@ -18,17 +20,50 @@ export function say(text, kind = "", when = serverNow()) {
   noteEnds = setTimeout(() => ($("note").hidden = true), kind === "note" ? 5000 : FRESH);
 }
 
+// What has been said below the console of the end of a node goes once it is up again.
+export function dropEnds(up) {
+  const ended = /\bnode (\d) (has ended|does not run|is stopped)/i.exec($("note").textContent);
+  if (ended && up.includes(+ended[1])) $("note").hidden = true;
+}
+
 // A line in the order of time.
 export function list(text, kind, when) {
   const box = $("said"), line = make("p", kind), time = make("time", "", clock(when));
-  const isAtEnd = box.scrollHeight - box.scrollTop - box.clientHeight < 30;
   line.dataset.when = when;
   line.append(time, text);
   let before = box.lastChild;
   while (before && before.dataset.when > when) before = before.previousSibling;
   box.insertBefore(line, before ? before.nextSibling : box.firstChild);
   while (box.children.length > KEPT) box.firstChild.remove();
-  if (isAtEnd) box.scrollTop = box.scrollHeight;
+  follow();
 }
 
-export const clearSaid = () => $("said").replaceChildren();
+// The list shows its newest line, unless a person has scrolled back to older ones.
+function follow() {
+  const box = $("said");
+  shape = `${box.clientWidth} ${box.clientHeight} ${box.scrollHeight}`;
+  if (isFollowing) box.scrollTop = box.scrollHeight;
+}
+
+function scrolled() {
+  const box = $("said");
+  // What a new size has moved no person has scrolled.
+  if (shape !== `${box.clientWidth} ${box.clientHeight} ${box.scrollHeight}`) return follow();
+  isFollowing = box.scrollHeight - box.scrollTop - box.clientHeight < 30;
+}
+
+function toNewest() {
+  isFollowing = true;
+  follow();
+}
+
+export function clearSaid() {
+  $("said").replaceChildren();
+  toNewest();
+}
+
+export function beginSaid() {
+  $("said").addEventListener("scroll", scrolled);
+  // A narrower window, an opened help, and cards that come or go change its size.
+  new ResizeObserver(toNewest).observe($("said"));
+}
