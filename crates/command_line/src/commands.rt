@@ -5,6 +5,7 @@ use crate::environment::{if_said, is_log_asked, trace_asked};
 use command_words::{Asked, NodeWords};
 use group_sim::{ScriptRefusal, sim_file};
 use machine_run::{Counting, MachineRefusal, RunIo, check_file, list_file, run_file};
+use machine_state::write_state;
 use net_run::{NetPlan, net_file};
 use node_run::{NodePlan, RunPlan, node_file};
 use paxos_msg::Group;
@@ -119,6 +120,9 @@ pub fn perform<
         Asked::Check { file } => Conclusion::of_done(check_file(rt, file, writer)),
         Asked::List { file } => Conclusion::of_done(list_file(rt, file, writer)),
         Asked::Run { file, steps } => run(rt, file, steps, reader, writer),
+        Asked::State { file, steps } => {
+            Conclusion::of_state(write_state(rt, file, steps, reader, writer))
+        }
         Asked::Show {
             size,
             session,

@@ -3,6 +3,7 @@ use crate::datagram::ShowFault;
 use group_sim::{LineFault, ScriptRefusal};
 use group_udp::GroupFault;
 use machine_run::{Finish, MachineRefusal};
+use machine_state::Stated;
 use paxos_msg::WireFault;
 use pcode_machine::End;
 use std::io::Write;
@@ -72,6 +73,15 @@ impl Conclusion {
     pub fn of_run(ran: Result<Finish, MachineRefusal>) -> Conclusion {
         match ran {
             Ok(finish) => Conclusion::Ran(finish),
+            Err(refusal) => Conclusion::Refused(Refusal::Machine(refusal)),
+        }
+    }
+
+    /// Returns the conclusion of `state`.
+    pub fn of_state(stated: Result<Stated, MachineRefusal>) -> Conclusion {
+        match stated {
+            Ok(Stated::Written) => Conclusion::Done,
+            Ok(Stated::Spent) => Conclusion::Ran(Finish::Steps),
             Err(refusal) => Conclusion::Refused(Refusal::Machine(refusal)),
         }
     }

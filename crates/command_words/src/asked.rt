@@ -15,6 +15,11 @@ pub enum Asked<'a> {
         file: &'a str,
         steps: u32,
     },
+    /// `steps` is how many steps the run has at most.
+    State {
+        file: &'a str,
+        steps: u32,
+    },
     /// The group of the datagram, and its bytes in digits, which are not looked at.
     Show {
         size: u8,

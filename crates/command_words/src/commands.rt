@@ -3,9 +3,10 @@ mod check;
 mod list;
 mod net;
 mod node;
-pub mod run;
+mod run;
 mod show;
 mod sim;
+mod state;
 
 use crate::asked::Asked;
 use crate::value::WordFault;
@@ -31,6 +32,7 @@ pub enum Name {
     Check,
     List,
     Run,
+    State,
     Show,
     Sim,
     Net,
@@ -38,10 +40,11 @@ pub enum Name {
 }
 
 /// All commands, in the order of help.
-static ALL: [Name; 7] = [
+static ALL: [Name; 8] = [
     Name::Check,
     Name::List,
     Name::Run,
+    Name::State,
     Name::Show,
     Name::Sim,
     Name::Net,
@@ -55,6 +58,7 @@ macro_rules! in_module {
             Name::Check => check::$($item)*,
             Name::List => list::$($item)*,
             Name::Run => run::$($item)*,
+            Name::State => state::$($item)*,
             Name::Show => show::$($item)*,
             Name::Sim => sim::$($item)*,
             Name::Net => net::$($item)*,
@@ -94,6 +98,7 @@ impl Name {
             Name::Check => check::read(matches),
             Name::List => list::read(matches),
             Name::Run => run::read(matches),
+            Name::State => state::read(matches),
             Name::Show => show::read(matches),
             Name::Sim => sim::read(matches),
             Name::Net => net::read(matches),

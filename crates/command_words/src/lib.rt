@@ -17,5 +17,5 @@ mod shared_words;
 mod value;
 
 pub use asked::{Asked, NodeWords};
-pub use commands::run::DEFAULT_STEPS;
 pub use reading::{NotAsked, asked_of, words_of};
+pub use shared_words::DEFAULT_STEPS;

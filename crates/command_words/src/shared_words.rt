@@ -1,6 +1,6 @@
 //! The words that several commands have, and how a word is described to clap.
-use crate::value::Word;
-use clap::{Arg, Command};
+use crate::value::{Word, WordFault, count_in};
+use clap::{Arg, ArgMatches, Command};
 use std::alloc::{AllocError, Global};
 
 pub const FILE: Word = Word::Required("FILE");
@@ -10,6 +10,11 @@ pub const SIZE: Word = Word::Required("SIZE");
 pub const SESSION: Word = Word::Required("SESSION");
 
 pub const TURNS: Word = Word::Required("TURNS");
+
+const STEPS: Word = Word::Optional("steps", "N");
+
+/// The most steps of a run, if the words do not say it.
+pub const DEFAULT_STEPS: u32 = 1_000_000;
 
 /// Describes a required word: the path of a file, or digits of bytes. One that begins with a hyphen
 /// comes after `--`.
@@ -44,6 +49,23 @@ pub fn on_file<'a>(
         .about(about)
         .after_help(after)
         .arg(file)
+}
+
+/// Describes the option `--steps` of `run` and `state`.
+pub fn steps_arg<'a>(alloc: Global) -> Arg<'a> {
+    option_arg(
+        alloc,
+        STEPS,
+        "How many steps at most, in decimal digits [default: 1000000]",
+    )
+}
+
+/// Returns how many steps the words allow.
+pub fn steps_of<'a>(matches: &ArgMatches<'a>) -> Result<u32, WordFault<'a>> {
+    match matches.get_str(STEPS.name()) {
+        None => Ok(DEFAULT_STEPS),
+        Some(text) => count_in(STEPS, text),
+    }
 }
 
 /// Describes the word SIZE of `net` and `node`.

@@ -1,14 +1,9 @@
 //! `run FILE [--steps N]`.
 use crate::asked::Asked;
-use crate::shared_words::{FILE, on_file, option_arg};
-use crate::value::{Word, WordFault, count_in, text_of};
+use crate::shared_words::{FILE, on_file, steps_arg, steps_of};
+use crate::value::{WordFault, text_of};
 use clap::{ArgMatches, Command};
 use std::alloc::{AllocError, Global};
-
-/// The most steps of a run, if the words do not say it.
-pub const DEFAULT_STEPS: u32 = 1_000_000;
-
-const STEPS: Word = Word::Optional("steps", "N");
 
 /// The word that names the command.
 pub const WORD: &str = "run";
@@ -28,16 +23,13 @@ Exit status:
 /// Returns the command's words, as clap reads them.
 pub fn words<'a>(alloc: Global) -> Result<Command<'a>, AllocError> {
     let about = "Runs a code file on standard input and output";
-    let steps = "How many steps at most, in decimal digits [default: 1000000]";
-    on_file(alloc, WORD, about, HELP)?.arg(option_arg(alloc, STEPS, steps))
+    on_file(alloc, WORD, about, HELP)?.arg(steps_arg(alloc))
 }
 
 /// Returns what the words ask for.
 pub fn read<'a>(matches: &ArgMatches<'a>) -> Result<Asked<'a>, WordFault<'a>> {
-    let file = text_of(matches, FILE)?;
-    let steps = match matches.get_str(STEPS.name()) {
-        None => DEFAULT_STEPS,
-        Some(text) => count_in(STEPS, text)?,
-    };
-    Ok(Asked::Run { file, steps })
+    Ok(Asked::Run {
+        file: text_of(matches, FILE)?,
+        steps: steps_of(matches)?,
+    })
 }
