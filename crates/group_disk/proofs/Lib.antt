@@ -7,3 +7,5 @@ mod SeenSame
 mod DiskFronts
 mod DiskRuns
 mod RunsWrite
+mod CallsInTurn
+mod DiskNetworks

@@ -13,6 +13,7 @@ use Rattle.paxos_acceptor.specs.declared.me.Me.{Me}
 use Rattle.paxos_disk.specs.Disks.{Folder}
 use Rattle.paxos_disk.specs.Found.{LoadsNoMore, LoadsNoMoreBut, LoadsOnly, MayLoad}
 use Rattle.group_wire.specs.Process.{IsProcess}
+use Rattle.group_process.specs.Network.{AreDelivered, GivenEntry, received_by, received_in}
 use Rattle.group_process.specs.Runs.{Attempt, FailsToStart, IsLastIfOn, IsOver, Starts, entries_of_attempt, record_by}
 
 -- A start over a folder, and the folder that it leaves.
@@ -77,3 +78,14 @@ pub record IsFolderLog (p : Parts) (group : Group) (folder : ℕ → Folder)
   pub started : (i : ℕ)
       → AreOverDisk p (record { node = i; group = group }) (folder i) (starts i)
   pub carried : IsCarried group [] log
+
+-- The same log with what each receive gave, over a network that gives only what was handed to it.
+pub record IsNetworkFolderLog (p : Parts) (group : Group) (folder : ℕ → Folder)
+    (starts : ℕ → List DiskStart) (log : List GivenEntry) : Type 0 where
+  pub among : AllByRecursion (λ e. IsNode group.size e.entry.node) log
+  pub entries : (i : ℕ) → received_by i log
+      ≡ flat_map (received_in (record { node = i; group = group })) (starts_of (starts i))
+  pub begun : (i : ℕ) → IsNew (folder i)
+  pub started : (i : ℕ)
+      → AreOverDisk p (record { node = i; group = group }) (folder i) (starts i)
+  pub delivered : AreDelivered group [] log

@@ -20,14 +20,16 @@ ghost use Rattle.group_world.specs.Member.{Member};
 ghost use Rattle.group_world.specs.Processes.{Entry};
 ghost use Rattle.group_disk.specs.Wrong.{MayCampaign, taken_back};
 ghost use Rattle.paxos_msg.specs.Records.{empty_record};
+ghost use Rattle.group_process.specs.Network.{GivenEntry, entries_alone};
 ghost use Rattle.group_process.specs.Runs.{AreRuns, Attempt, ConsolesAreReleased, ConsolesShowRuns, IsOver, Starts};
-ghost use Rattle.group_disk.specs.Folders.{AreOverDisk, DiskStart, IsFolderLog, IsOverDisk, LeavesNoMoreThan, start_over, starts_of};
+ghost use Rattle.group_disk.specs.DiskCalls.{AreCallsAt, AreDiskCalls, DiskCall, HaveStarts, WriteAt, runs_of};
+ghost use Rattle.group_disk.specs.Folders.{AreOverDisk, DiskStart, IsFolderLog, IsNetworkFolderLog, IsOverDisk, LeavesNoMoreThan, start_over, starts_of};
 ghost use Rattle.group_disk.specs.Headline.{AlwaysLaterOfDisks, AlwaysOfDiskNodes, AlwaysOfDisks, AreSeenAlike, AreUpAsRun, DisksLeaveNodes, HasFirstStarts, IsAfterDisks};
 ghost use Rattle.group_process.specs.Terminals.{TerminalsAreConsoles, TerminalsShowConsoles, TerminalsShowLastRuns};
 ghost use Rattle.group_disk.specs.Written.{IsWrittenAt};
 ghost use Rattle.group_disk.specs.Restarts.{AreChosenRuns, AreRestarts, AreSeenSame, HasKeptLog, HaveRuns, IsDiskLog};
 
-use group_process::laws::{runs_headline, terminals_are_consoles};
+use group_process::laws::{networks_carry, runs_headline, terminals_are_consoles};
 use paxos_acceptor::Store;
 use paxos_disk::Disk;
 use pcode_machine::laws::prefixes_are_ordered;
@@ -66,6 +68,17 @@ pub fn folder_logs_are_disk_logs()
         → IsDiskLog p group (λ i. starts_of (starts i)) log }
 {
     folders_restart();
+}
+
+/// Where each datagram that a receive gave, if it spells a message, was handed to some wire before,
+/// a log over folders with what receives gave is a log over folders: all that is heard was sent
+/// before.
+pub fn networks_carry_over_disks()
+    ensures { (p : Parts) (group : Group) (folder : ℕ → Folder) (starts : ℕ → List DiskStart)
+        (log : List GivenEntry) → IsGroup group → IsNetworkFolderLog p group folder starts log
+        → IsFolderLog p group folder starts (entries_alone log) }
+{
+    networks_carry();
 }
 
 /// Each front of a log over disks is one too.
@@ -141,6 +154,19 @@ pub fn runs_are_starts<D: Disk>()
         (refused : StartRefused (LogState D)) (rest : List DiskStart) → D.honest
         → HasStarted (disk_kind D.honest D.folder) me p store (Err refused)
         → LeavesNoMoreThan p me (D.folder store.disk) (D.folder refused.store.disk) rest }
+{}
+
+/// The calls of `run_over_disk` at a node, one after the other over one honest disk and at one
+/// terminal, between which only a crash may touch either, are starts over the folder of that disk,
+/// and runs at that terminal. So the premises of the main theorem that speak of the disks and
+/// terminals of processes (`AreOverDisk`, `AreAtTerminal`) hold of calls of the program.
+pub fn calls_are_starts<D: Disk>()
+    ensures starts { (p : Parts) (me : Me) (folder : Folder) (calls : List (DiskCall D))
+        → D.honest → AreDiskCalls D.honest D.folder p me folder calls
+        → HaveStarts p me folder (runs_of calls) }
+    ensures terminal { (p : Parts) (me : Me) (folder : Folder) (calls : List (DiskCall D))
+        (shown now : List ℕ) → AreDiskCalls D.honest D.folder p me folder calls
+        → AreCallsAt shown calls now → WriteAt shown (runs_of calls) now }
 {}
 
 /// What a run of a node writes, to a writer that is told to begin at the number of the bytes that

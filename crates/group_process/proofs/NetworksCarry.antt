@@ -18,8 +18,9 @@ use Rattle.group_wire.specs.Doings.{DoesAll, DoesOnWire, Doing, FailsDeed}
 use Rattle.group_wire.specs.Traffic.{letters_of}
 use Rattle.group_world.specs.Processes.{Entry, IsCarried, entries_of}
 use Rattle.group_world.specs.Event.{HearsOf}
-use Rattle.group_process.specs.Network.{AreDelivered, AreLetters, IsNetworkLog, GivenEntry, entries_alone, given_for, received_at, received_by, received_in, with_given}
-use Rattle.group_process.specs.Runs.{AreRuns, Attempt, FailsToStart, IsAttempt, IsGroupLog, NodeRun, Starts, ends_by, entries_of_attempt, record_left}
+use Rattle.group_wire.specs.Process.{IsProcess}
+use Rattle.group_process.specs.Network.{AreDelivered, AreEntriesOf, AreLetters, AreProcesses, IsDeliveredLog, IsNetworkLog, GivenEntry, entries_alone, given_for, received_at, received_by, received_in, with_given}
+use Rattle.group_process.specs.Runs.{AreRuns, Attempt, FailsToStart, IsGroupLog, NodeRun, Starts, ends_by, entries_of_attempt}
 use Rattle.group_process.proofs.GivenWasSent.{ReadLaw, letter_sent, message_sent}
 use Rattle.group_protocol.proofs.Elements.{first_in}
 
@@ -89,16 +90,22 @@ module _ (p : Parts) (me : Me) where
       → EndsGiven (given_for run.process.failed) (ends_by me run run.stand)
   ends_given run h = grind (arith, fails_given run.last)
 
-  attempt_given : (kept : Record) (a : Attempt) (rest : List Attempt) → IsAttempt p me kept a rest
-      → AllByRecursion (IsGiven me.group) (received_in me a)
-  attempt_given kept (Starts run) rest (read, h, last) = grind (arith, all_append, all_given, ends_given)
-  attempt_given kept (FailsToStart loaded is_changed) rest h = (tt, tt)
+  run_given : (run : NodeRun) → IsProcess p me run.process run.last → AllByRecursion (IsGiven me.group) (received_in me (Starts run))
+  run_given run h = grind (arith, all_append, all_given, ends_given)
 
-  runs_given : (runs : List Attempt) (kept : Record) → AreRuns p me kept runs
-      → AllByRecursion (IsGiven me.group) (flat_map (received_in me) runs)
-  runs_given [] kept h = tt
-  runs_given (a ∷ runs) kept (first, others) =
-      all_append (IsGiven me.group) _ _ (attempt_given kept a runs first) (runs_given runs (record_left a) others)
+  starts_given : (starts : List Attempt) → AreProcesses p me starts
+      → AllByRecursion (IsGiven me.group) (flat_map (received_in me) starts)
+  starts_given [] h = tt
+  starts_given (Starts run ∷ starts) (first, others) =
+      all_append (IsGiven me.group) (received_in me (Starts run)) (flat_map (received_in me) starts) (run_given run first)
+      (starts_given starts others)
+  starts_given (FailsToStart loaded is_changed ∷ starts) h = (tt, starts_given starts h)
+
+  -- runs over a store are processes
+  are_processes : (runs : List Attempt) (kept : Record) → AreRuns p me kept runs → AreProcesses p me runs
+  are_processes [] kept h = tt
+  are_processes (Starts run ∷ runs) kept (first, others) = (first.1, are_processes runs _ others)
+  are_processes (FailsToStart loaded is_changed ∷ runs) kept (first, others) = are_processes runs _ others
 
 -- ---- the log
 
@@ -122,15 +129,25 @@ module _ (read : ReadLaw) (group : Group) (session : IsGroup group) where
   all_among [] h = tt
   all_among (e ∷ log) h = (h.0, all_among log h.1)
 
+  pub delivered_log : (p : Parts) (starts : ℕ → List Attempt) (log : List GivenEntry) → IsDeliveredLog p group starts log
+      → AreEntriesOf group starts (entries_alone log)
+  delivered_log p starts log h =
+      let me : ℕ → Me = λ i. record { node = i; group = group } in
+      let given : (i : ℕ) → AllByRecursion (IsGiven group) (received_by i log) =
+      λ i. rw (h.entries i) (starts_given p (me i) (starts i) (h.processes i)) in
+      record {
+        among = all_among log h.among;
+        entries = λ i. entries_without i log ∙ ap (map entry_in) (h.entries i) ∙ runs_without (me i) (starts i);
+        carried = all_carried [] log h.delivered (all_by_node (IsGiven group) log given);
+      }
+
   pub network_log : (p : Parts) (runs : ℕ → List Attempt) (log : List GivenEntry) → IsNetworkLog p group runs log
       → IsGroupLog p group runs (entries_alone log)
   network_log p runs log h =
-      let me : ℕ → Me = λ i. record { node = i; group = group } in
-      let given : (i : ℕ) → AllByRecursion (IsGiven group) (received_by i log) =
-      λ i. rw (h.entries i) (runs_given p (me i) (runs i) _ (h.started i)) in
-      record {
-        among = all_among log h.among;
-        entries = λ i. entries_without i log ∙ ap (map entry_in) (h.entries i) ∙ runs_without (me i) (runs i);
-        started = h.started;
-        carried = all_carried [] log h.delivered (all_by_node (IsGiven group) log given);
-      }
+      let is = delivered_log p runs log (record {
+        among = h.among;
+        entries = h.entries;
+        processes = λ i. are_processes p (record { node = i; group = group }) (runs i) _ (h.started i);
+        delivered = h.delivered;
+      }) in
+      record { among = is.among; entries = is.entries; started = h.started; carried = is.carried }

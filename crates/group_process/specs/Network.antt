@@ -13,8 +13,9 @@ use Rattle.group_wire.specs.Arrivals.{Spells}
 use Rattle.group_wire.specs.Doings.{Doing}
 use Rattle.group_wire.specs.Traffic.{Letter, letters_of}
 use Rattle.group_world.specs.declared.event.Outcome.TheVariants.{Kept}
-use Rattle.group_world.specs.Processes.{Entry, quiet_entry}
-use Rattle.group_process.specs.Runs.{AreRuns, Attempt, FailsToStart, IsGroupLog, NodeRun, Starts, ends_by, entries_of_attempt, entry_by}
+use Rattle.group_wire.specs.Process.{IsProcess}
+use Rattle.group_world.specs.Processes.{Entry, IsCarried, entries_of, quiet_entry}
+use Rattle.group_process.specs.Runs.{AreRuns, Attempt, FailsToStart, IsGroupLog, NodeRun, Starts, ends_by, entries_of_attempt, entry_by, runs_in}
 
 -- An entry with what a receive gave for it.
 pub record GivenEntry : Type 0 where
@@ -88,6 +89,28 @@ pub record IsNetworkLog (p : Parts) (group : Group) (runs : ℕ → List Attempt
       ≡ flat_map (received_in (record { node = i; group = group })) (runs i)
   pub started : (i : ℕ) → AreRuns p (record { node = i; group = group }) empty_record (runs i)
   pub delivered : AreDelivered group [] log
+
+-- The runs of these starts are processes of the node, whatever records they load.
+abbrev pub AreProcesses : Parts → Me → List Attempt → Type 0
+AreProcesses p me starts =
+    AllByRecursion (λ run. IsProcess p me run.process run.last) (runs_in starts)
+
+-- The same log for starts over any stores: nothing is said of what their loads give.
+pub record IsDeliveredLog (p : Parts) (group : Group) (starts : ℕ → List Attempt)
+    (log : List GivenEntry) : Type 0 where
+  pub among : AllByRecursion (λ e. IsNode group.size e.entry.node) log
+  pub entries : (i : ℕ) → received_by i log
+      ≡ flat_map (received_in (record { node = i; group = group })) (starts i)
+  pub processes : (i : ℕ) → AreProcesses p (record { node = i; group = group }) (starts i)
+  pub delivered : AreDelivered group [] log
+
+-- A log of these starts in which all that is heard was sent before.
+pub record AreEntriesOf (group : Group) (starts : ℕ → List Attempt) (log : List Entry)
+    : Type 0 where
+  pub among : AllByRecursion (λ e. IsNode group.size e.node) log
+  pub entries : (i : ℕ) → entries_of i log
+      ≡ flat_map (entries_of_attempt (record { node = i; group = group })) (starts i)
+  pub carried : IsCarried group [] log
 
 -- The claim that some runs of the processes of this group have such a log, which is a log of runs,
 -- and that one of them hears a message in it.

@@ -14,7 +14,7 @@ ghost use Rattle.group_world.specs.Group.{messages_in};
 ghost use Rattle.group_world.specs.Member.{Member};
 ghost use Rattle.group_rules.specs.Claims.{ConsolesAgree, ConsolesGrow, ConsolesHoldOutput, ConsolesShowReleased, HasNoGap, KeysOnce, LearnedAgree, LearnedChosen, LearnedStays, SerialsInOrder};
 ghost use Rattle.group_world.specs.Processes.{Entry};
-ghost use Rattle.group_process.specs.Network.{IsNetworkLog, MayHear, GivenEntry, entries_alone};
+ghost use Rattle.group_process.specs.Network.{AreEntriesOf, GivenEntry, IsDeliveredLog, IsNetworkLog, MayHear, entries_alone};
 ghost use Rattle.group_process.specs.Runs.{AlwaysLaterOfRuns, AlwaysOfNodes, AlwaysOfRuns, AreHistory, AreRuns, Attempt, ConsolesAreReleased, ConsolesShowRuns, HasRuns, IsAfterRuns, IsGroupLog, LeaveNodes};
 ghost use Rattle.group_process.specs.Terminals.{TerminalsAreConsoles, TerminalsShowConsoles, TerminalsShowLastRuns};
 
@@ -63,11 +63,15 @@ pub fn fronts_of_runs()
 
 /// Where each datagram that a receive gave, if it spells a message, was handed to some wire before,
 /// all that is heard was sent before: a log of runs with what receives gave, over such a network,
-/// is a log of runs.
+/// is a log of runs. Whatever stores the processes of the nodes are over, it is a log of their
+/// starts in which all that is heard was sent before.
 pub fn networks_carry()
-    ensures { (p : Parts) (group : Group) (runs : ℕ → List Attempt) (log : List GivenEntry)
+    ensures runs { (p : Parts) (group : Group) (runs : ℕ → List Attempt) (log : List GivenEntry)
         → IsGroup group → IsNetworkLog p group runs log
         → IsGroupLog p group runs (entries_alone log) }
+    ensures starts { (p : Parts) (group : Group) (starts : ℕ → List Attempt)
+        (log : List GivenEntry) → IsGroup group → IsDeliveredLog p group starts log
+        → AreEntriesOf group starts (entries_alone log) }
 {
     spelling_is_read();
 }
