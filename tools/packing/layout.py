@@ -16,10 +16,10 @@ TOP = manual.TOP
 # scripts find each other and the program, which is its `run`.
 LIBRARY = "lib/pgroup"
 SCRIPTS = [*manual.SCRIPTS, "console"]
-# The compiler, the assembler and the translator: what is called, and the folders that they need.
-COMPILERS = ("assemble", "compile", "files", "translate", "volume")
-COMPILER_FILES = ("assembler/**/*", "compiler/**/*", "pcode/**/*", "translator/**/*",
-                  "volumes/**/*")
+# The tools for programs: what is called, and the folders that they need.
+COMPILERS = ("assemble", "compile", "files", "freeze", "translate", "volume")
+COMPILER_FILES = ("assembler/**/*", "compiler/**/*", "freezer/**/*", "pcode/**/*",
+                  "translator/**/*", "volumes/**/*")
 UNITS = ("pgroup@.service", "pgroup-page@.service")
 # The pages and pictures, with all pages that they link to. Their other links, to sources, tests and
 # scripts, lead into the repository alone.

@@ -21,7 +21,8 @@ SCRIPTS = ("attach", "demo", "draw", "lead", "page", "renew", "replay", "status"
 # Pages that belong together name each other.
 FAMILIES = (
     ("", *COMMANDS), ("node", *SCRIPTS),
-    ("run", "console", "compile", "assemble", "translate", "volume", "files"),
+    ("run", "console", "compile", "assemble", "translate", "volume", "files", "freeze"),
+    ("node", "supervise", "renew", "freeze"),
 )
 # The columns of a page, by how many its text is indented, and from where on an indented line goes
 # on in the second column of the one before.
@@ -234,6 +235,8 @@ def script_pages():
     pages["pgroup-volume.1"] = page_of_words("volume", volume)
     translator = module_of("translator.command").words_parser()
     pages["pgroup-translate.1"] = page_of_words("translate", translator)
+    freezer = module_of("freezer.command").words_parser()
+    pages["pgroup-freeze.1"] = page_of_words("freeze", freezer)
     files = parser_of_script(os.path.join(TOOLS, "files"))
     pages["pgroup-files.1"] = page_of_words("files", files)
     return {**pages, "pgroup-assemble.1": assembler_page(), "pgroup-console.1": console_page()}

@@ -2,6 +2,7 @@
 with the encoder."""
 
 import struct
+from typing import Any, List, NamedTuple
 
 from .faults import Fault
 from .instructions import (BIG, BLOCK, BYTE, CALL, COMPARE, JUMP, LAST, LDCI, LEVELS, PACKED, PLAIN,
@@ -21,6 +22,17 @@ def names_by_opcode():
         for number in range(least, most + 1):
             table[base + number] = name, "short", number
     return table
+
+
+class Instruction(NamedTuple):
+    name: str
+    operands: List[Any]  # as the listing has them: those of jumps are targets
+    targets: List[int]  # the offsets that it may lead to, but for the next one
+    after: int  # the offset behind it
+
+    def following(self):
+        """The offsets of the instructions that may come next."""
+        return self.targets + ([] if self.name in LAST else [self.after])
 
 
 class Lister:
@@ -72,8 +84,8 @@ class Lister:
         words = range(after + 6, after + 6 + 2 * (high - low + 1), 2)
         return [low, high, after + 4] + [self.pointer(word) for word in words]
 
-    def look(self, at, jtab):
-        """The text of an instruction, and the offsets that come after it."""
+    def instruction(self, at, jtab):
+        """The instruction at an offset of the procedure with this table."""
         if self.byte(at) not in self.names:
             raise Fault(f"there is no opcode {self.byte(at)}, which stands at {at}")
         name, form, number = self.names[self.byte(at)]
@@ -97,8 +109,13 @@ class Lister:
         elif form == "case":
             operands = self.case(after)
             targets = operands[2:]
-        text = " ".join([name] + [str(operand) for operand in operands])
-        return text, targets + ([] if name in LAST else [after])
+            after += after % 2 + 6 + 2 * (len(targets) - 1)  # W1, W2, UJP, and the table
+        return Instruction(name, operands, targets, after)
+
+    def look(self, at, jtab):
+        """The text of an instruction, and the offsets that come after it."""
+        it = self.instruction(at, jtab)
+        return " ".join([it.name] + [str(operand) for operand in it.operands]), it.following()
 
     def reached(self, jtab):
         """The text at each offset of a procedure that can be reached."""

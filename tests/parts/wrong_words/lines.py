@@ -11,7 +11,7 @@ new           a name that is free                                 session the ch
 # The scripts that refuse an option that they have not.
 NAMES = (
     "lead", "attach", "page", "renew", "replay", "draw", "status", "supervise", "compile",
-    "assemble", "volume", "translate", "console", "package",
+    "assemble", "volume", "translate", "freeze", "console", "package",
 )
 
 SUPERVISE = (
@@ -210,6 +210,25 @@ SUPERVISE 2 @{folder}
 1 assemble --list {noise}
 2 assemble --map {asm} x
 1 assemble --map {asm} 9 9
+2 freeze
+2 freeze {code}
+2 freeze {code} {code} -o {new}
+2 freeze {code} -o {new} --check {code}
+2 freeze --facts
+2 freeze --facts {code} {code}
+2 freeze --map {code} 1
+2 freeze --map {code} x 1
+1 freeze --map {code} 1 1
+1 freeze --facts {none}
+1 freeze --facts {noise}
+1 freeze --facts {folder}
+1 freeze {none} -o {new}
+1 freeze {noise} -o {new}
+1 freeze {folder} -o {new}
+1 freeze {code} -o {code}
+1 freeze {code} -o {folder}
+1 freeze {code} -o {none}/x
+1 freeze {code} --check {code}
 2 volume
 1 volume {none}
 1 volume {folder}
