@@ -76,7 +76,8 @@ run_at_its_terminal : {S : Type 0} (kind : StoreKind S) (p : Parts) (me : Me) (s
     (h : RunsNode kind me p store end plan from to before after result) → before ≡ Some (take kept shown)
     → plan.seen ≡ length (take kept shown) → IsWrittenAt shown kept h.last after result
 run_at_its_terminal kind p me store end plan from to shown kept before after result h is told =
-    subst (λ (b : Option (List ℕ)). (g : RunsNode kind me p store end plan from to b after result) → IsWrittenAt shown kept g.last after result)
+    subst (λ (b : Option (List ℕ)). (g : RunsNode kind me p store end plan from to b after result)
+    → IsWrittenAt shown kept g.last after result)
     (sym is) (λ g. run_writes kind p me store end plan from to shown kept after result g told) h
 
 -- some bytes that are known are these
@@ -103,14 +104,17 @@ module _ {D : Type 0} (honest : Type 0) (folder_of : D → Folder) (p : Parts) (
       ap (λ k. take k shown) w.begun ∙ ap (λ l. take kept l) front ∙ take_twice kept j full in
       let is_there : left ≡ shown_after full run_at =
       same_bytes c.after left (shown_after shown w.run) after w.is_there ∙ ap (λ l. l ++ w.run.wrote) begins in
-      let (wrote, released, turn, shows) = rest (shown_after full run_at) (length left) (is_there ∙ sym (take_all (length left) (shown_after full run_at) (rw (sym is_there) (omega arith)))) in (
+      let whole = shown_after full run_at in
+      let all : take (length left) whole ≡ whole = take_all (length left) whole (rw (sym is_there) (omega arith)) in
+      let (wrote, released, turn, shows) = rest whole (length left) (is_there ∙ sym all) in (
         run_at ∷ wrote,
         grind (arith, released, w.released, is),
         (record { told = w.writes.told ∙ ap length begins; wrote = w.writes.wrote }, turn),
         shows,
       )
 
-  pub write_at : (folder : Folder) (full shown : List ℕ) (j : ℕ) (calls : List (DiskCall D)) → shown ≡ take j full → AreDiskCalls honest folder_of p me folder calls → AreCallsAt shown calls now
+  pub write_at : (folder : Folder) (full shown : List ℕ) (j : ℕ) (calls : List (DiskCall D)) → shown ≡ take j full
+      → AreDiskCalls honest folder_of p me folder calls → AreCallsAt shown calls now
       → WriteAt full (runs_of calls) now
   write_at folder full shown j [] front are is =
       ([], refl, tt, record { rest = drop j full; whole = sym (take-append-drop j full) ∙ ap (λ l. l ++ drop j full) (sym (is ∙ front)) })

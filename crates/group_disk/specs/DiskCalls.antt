@@ -31,8 +31,8 @@ pub record DiskCall (D : Type 0) : Type 0 where
   pub result : Result (Unit {0}) GroupFault
   pub ran : Option NodeRun
 
--- A call that does what `run_over_disk` promises (`RunsOrRefuses`): its start is refused, or this is
--- the run of its process, which is over.
+-- A call that does what `run_over_disk` promises (`RunsOrRefuses`): its start is refused, or this
+-- is the run of its process, which is over.
 -- Forbids: the run of another process.
 abbrev pub IsCallWith : {D : Type 0} → StoreKind (LogState D) → Parts → Me → DiskCall D
     → Option NodeRun → Type 0
@@ -52,7 +52,8 @@ abbrev pub AreDiskCalls : {D : Type 0} → Type 0 → (D → Folder) → Parts �
     → List (DiskCall D) → Type 0
 AreDiskCalls honest folder_of p me folder [] = Unit {0}
 AreDiskCalls honest folder_of p me folder (c ∷ calls) =
-    LoadsNoMore folder (folder_of c.store.disk) × IsCallWith (disk_kind honest folder_of) p me c c.ran
+    LoadsNoMore folder (folder_of c.store.disk)
+    × IsCallWith (disk_kind honest folder_of) p me c c.ran
     × AreDiskCalls honest folder_of p me (folder_of c.end.disk) calls
 
 -- The runs of the processes of these calls.
