@@ -74,6 +74,17 @@ impl Frames {
         self.below.get(index).copied()
     }
 
+    /// Returns the number of frames, at most 1,024.
+    pub fn count(&self) -> usize
+        ensures value { result ≡ length self.now }
+        ensures bound { result ≤ MOST_FRAMES }
+    {
+        if self.current.is_none() {
+            return 0;
+        }
+        self.below.len() + 1
+    }
+
     /// Returns the current frame, if there is one: the frame of the procedure that runs.
     #[inline(always)]
     pub fn current(&self) -> Option<Frame>
