@@ -1,0 +1,10 @@
+pub mod MachineLaws
+pub mod Frames
+pub mod Effects
+pub mod TwinEffects
+pub mod Results
+pub mod Transitions
+pub mod Running
+pub mod Goes
+pub mod CaseJumps
+pub mod Wrong

@@ -1,0 +1,4 @@
+pub mod Twins
+pub mod States
+pub mod Goes
+pub mod Counterexamples

@@ -1,0 +1,15 @@
+//! Frozen programs: code files that go on where another program was.
+//!
+//! A program that waits for a key can be written as a new code file, which, when it is started,
+//! waits in the same state. `are_twins(&program, &other, &pairs)` is true only if two programs do
+//! the same at each pair of places in a list, and go on at such pairs. The law `frozen_goes_on`
+//! says what follows once both have come to like states: from there on they do the same.
+#![tactic(auto)]
+
+mod instructions;
+pub mod laws;
+mod pairs;
+mod twins;
+
+pub use pairs::Pair;
+pub use twins::are_twins;
