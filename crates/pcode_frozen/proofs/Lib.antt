@@ -6,5 +6,6 @@ pub mod Results
 pub mod Transitions
 pub mod Running
 pub mod Goes
+pub mod TwinStates
 pub mod CaseJumps
 pub mod Wrong

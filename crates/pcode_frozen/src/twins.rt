@@ -49,7 +49,7 @@ fn stands_in(program: &Program, procedure: u8, at: u32) -> Option<Proc>
 
 /// Returns true only if both programs go on alike from these places: they are listed, or a UJP of
 /// the other program leads to one that is.
-fn goes_on(other_program: &Program, pairs: &[Pair], to: Pair) -> bool
+pub(crate) fn goes_on(other_program: &Program, pairs: &[Pair], to: Pair) -> bool
     ensures { IsTrue result → GoesOn other_program.now (listed pairs.now) to.procedure to.offset
         to.other to.other_offset }
 {
