@@ -1,5 +1,5 @@
 -- States of which the frames are compared one by one.
-use Rattle.std.proofs.Common.{◌≡◌, ℕ, suc, List, Some, None, slice_get}
+use Rattle.std.proofs.Common.{◌≡◌, ℕ, suc, List, Some, slice_get}
 use Rattle.pcode_file.specs.Parts.{Parts}
 use Rattle.pcode_frames.specs.declared.frame.Frame.{Frame}
 use Rattle.pcode_frozen.specs.Originals.{IsTwinAt}
@@ -16,14 +16,6 @@ module _ (q : Parts) (K : PlacePairs) (fs gs : List Frame) (i : ℕ) (one two : 
       let a : f ≡ one = cc in
       let b : g ≡ two = cc in
       rw (a, b) (same, on)
-
-  -- with no frame above in p
-  pub twin_at_top : slice_get fs (suc i) ≡ None → IsTwinAt q K fs gs i
-  twin_at_top none = twin_at (λ above other up up2. absurd cc)
-
-  -- with no frame above in q
-  pub twin_at_other_top : slice_get gs (suc i) ≡ None → IsTwinAt q K fs gs i
-  twin_at_other_top none = twin_at (λ above other up up2. absurd cc)
 
   -- with frames above
   pub twin_below : (a b : Frame) → slice_get fs (suc i) ≡ Some a → slice_get gs (suc i) ≡ Some b

@@ -1,5 +1,5 @@
 //! The check that a state of the original program is the frozen one's but for places.
-ghost use Rattle.std.specs.Prelude.{◌≡◌, ◌+◌, ◌<◌, ◌≤◌, IsTrue, length, Some, slice_get};
+ghost use Rattle.std.specs.Prelude.{◌≡◌, ◌<◌, IsTrue, Some, slice_get};
 ghost use Rattle.pcode_frames.specs.declared.limits.TheConstants.{MOST_FRAMES};
 ghost use Rattle.pcode_frozen.specs.Originals.{IsTwinAt, begun_at, original_of};
 ghost use Rattle.pcode_frozen.specs.States.{AreTwinFrames, AreTwinTransfers, AreTwins};
@@ -13,7 +13,8 @@ use pcode_ops::Program;
 
 /// Returns true only if the frames have the same words and the same static link.
 fn same_frame(one: Frame, two: Frame) -> bool
-    ensures { IsTrue result → (one.base ≡ two.base) × (one.size ≡ two.size) × (one.link ≡ two.link) }
+    ensures { IsTrue result
+        → (one.base ≡ two.base) × (one.size ≡ two.size) × (one.link ≡ two.link) }
 {
     one.base == two.base && one.size == two.size && one.link == two.link
 }
