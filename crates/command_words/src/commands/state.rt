@@ -14,7 +14,7 @@ or has ended, and writes nothing of what the program writes. Then it prints
 memory, frames, stack, and how many bytes were read and written.
 
 Example:
-  pgroup state examples/echo.code < keys.txt
+  pgroup state examples/echo.code --steps 5000
 
 Exit status:
   0  printed: the program waits, or has ended, also by an execution error

@@ -1,0 +1,11 @@
+pub mod MachineLaws
+pub mod Frames
+pub mod Effects
+pub mod TwinEffects
+pub mod Results
+pub mod Transitions
+pub mod Running
+pub mod Goes
+pub mod TwinStates
+pub mod CaseJumps
+pub mod Wrong
