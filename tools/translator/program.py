@@ -59,6 +59,8 @@ class Translation:
         keys = sorted((number, it) for number, segment in found.segments.items()
                       for it in segment.procedures)
         keys.remove(MAIN)
+        for key in keys:
+            self.refuse_program(key)
         self.numbers = {key: number for number, key in enumerate([MAIN] + keys, 1)}
         if len(self.numbers) > MOST_PROCEDURES:
             self.refuse(f"it has {len(self.numbers)} procedures, and {MOST_PROCEDURES} are the most"
@@ -74,6 +76,13 @@ class Translation:
     def parts(self, key):
         segment = self.found.segments[key[0]]
         return segment, segment.procedures[key[1]]
+
+    def refuse_program(self, key):
+        """Refuses a procedure at level 0, called or not: the loader takes procedure 1 alone."""
+        segment, procedure = self.parts(key)
+        if not procedure.level:
+            self.refuse("it has the lex level 0, and that is procedure 1 of segment 1 alone",
+                        segment.place._replace(procedure=procedure.number))
 
     def flows(self):
         """The shapes of the stack in each procedure, and what EXITs may end."""

@@ -1,4 +1,5 @@
-"""Texts that a program writes: alike ones are kept once, and all may be packed."""
+"""Texts that a program writes or stores: alike ones are kept once. Those that are written may be
+packed."""
 
 import random
 
@@ -68,6 +69,62 @@ def try_in_a_file():
     passed("packed texts are the same in a file")
 
 
+STORED = """PROGRAM P;
+CONST SAME = '{text}';
+TYPE LETTERS = PACKED ARRAY[1..{size}] OF CHAR;
+VAR S: STRING[90]; L: LETTERS; I: INTEGER; SEVERAL: ARRAY[1..3] OF STRING[90];
+  R: RECORD NUMBER: INTEGER; NAME: STRING[90] END;
+FUNCTION GIVEN(IT: STRING): BOOLEAN;
+VAR OWN: STRING[90];
+  PROCEDURE FARTHER;
+  BEGIN OWN := '{text}' END;
+BEGIN OWN := ''; FARTHER; GIVEN := IT = OWN END;
+FUNCTION TAKEN(IT: LETTERS): BOOLEAN;
+BEGIN TAKEN := IT = SAME END;
+BEGIN
+  S := SAME; WRITELN(S); S := CONCAT('!', SAME); S := CONCAT('{text}', '!'); WRITELN(S);
+  L := SAME; WRITELN(L); L := '{text}'; WRITELN(TAKEN(SAME) AND TAKEN(L));
+  WITH R DO NAME := SAME; WRITELN(R.NAME);
+  FOR I := 1 TO 3 DO BEGIN SEVERAL[I] := '{text}'; WRITELN(SEVERAL[I]) END;
+  WRITELN(GIVEN(SAME) AND GIVEN('{text}')); WRITELN(COPY(SAME, 2, 1)); WRITELN(POS('!', SAME))
+END.
+"""
+
+
+def try_stored():
+    """Texts that are assigned, given, compared and joined are the same in each place."""
+    source = random.Random(86)
+    for number in range(20):
+        letters = source.choice(ALPHABETS).replace("!", "")
+        line = "".join(source.choice(letters) for _ in range(source.randrange(2, 81)))
+        text = STORED.replace("{text}", line.replace("'", "''")).replace("{size}", str(len(line)))
+        found = run(compile_text(text, "p.pas").data, "")
+        wanted = [line, line + "!", line, "TRUE", line, line, line, line, "TRUE", line[1], "0",
+                  ""]
+        must(found == ("\n".join(wanted), ""), f"{number}: {found} is not {wanted}")
+    passed("20 texts that are stored in 16 places each are the same in all of them")
+
+
+def stores_of(targets, constant=TEXT):
+    """A program that stores TEXT in some variables, and another text."""
+    stores = "".join(f"{it} := SAME; " for it in targets)
+    return (f"PROGRAM P;\nCONST SAME = '{constant}';\nVAR S: STRING; L: PACKED ARRAY"
+            f"[1..{len(TEXT)}] OF CHAR;\nBEGIN {stores}S := 'Another text.' END.\n")
+
+
+def try_room_of_stored():
+    """A text that is stored again takes a call beside the address: as a string, and as letters."""
+    for name in ("S", "L"):
+        sizes = [size_of(stores_of([name] * count)) for count in range(5)]
+        must(sizes[4] - sizes[3] == 4, f"{name}: a text that is stored again is a call: {sizes}")
+        must(sizes[3] < sizes[1] + 30, f"{name}: a text stored three times is kept once: {sizes}")
+    both = size_of(stores_of("SL")) - size_of(stores_of("S"))
+    must(both > len(TEXT), f"letters without a length are others than a string's: {both}")
+    once = [size_of(stores_of("S", it)) for it in (TEXT, "It.")]
+    must(once[0] - once[1] > len(TEXT), f"a text that is stored once stands in its place: {once}")
+    passed("a text that is stored again takes 2 bytes beside its address")
+
+
 def try_room():
     """An equal text takes two bytes more, and a packed one at most 1.25 bytes a character with what
     writes it."""
@@ -97,4 +154,4 @@ def try_too_large():
     passed(f"{LINES} lines that have no room are packed, and twice as many are refused")
 
 
-TESTS = (try_written, try_in_a_file, try_room, try_too_large)
+TESTS = (try_written, try_in_a_file, try_stored, try_room_of_stored, try_room, try_too_large)

@@ -115,9 +115,8 @@ class OldRoutine(OldCalls, RoutineGenerator):
     def known_string(self, value):
         self.letters("LSA", value.text)
 
-    def text(self, words):
-        data = b"".join(word.to_bytes(2, "little") for word in words)
-        self.letters("LPA", data.decode("latin-1"))
+    def text(self, text):
+        self.letters("LPA", text + "\0" * (len(text) % 2))
 
     def real_value(self, node):
         self.code.emit("LDC", node.value >> 16 & 65535, node.value & 65535)
@@ -128,9 +127,8 @@ class OldRoutine(OldCalls, RoutineGenerator):
             self.letters("LSA", node.text[1:])
             self.code.emit("SAS", node.location.type.most)
         else:
-            text = node.text + "\0" * (len(node.text) % 2)
-            self.letters("LPA", text)
-            self.code.emit("MOV", len(text) // 2)
+            self.text(node.text)
+            self.code.emit("MOV", len(node.text) + 1 >> 1)
 
     def concatenation(self, value):
         room = self.temporary(value.type.size)

@@ -63,6 +63,7 @@ FORMS = (
     ("a program of the system", changed(PLAIN, JTAB + 1, [255]),
      f"{ONE}: its lex level is below 0"),
     ("a program at level 3", program(END, level=3), "has the lex level 3"),
+    ("two programs", program(END, [(2, 0, 0, RETURN)]), "procedure 2: it has the lex level 0"),
     ("an odd size", changed(PLAIN, JTAB - 8, [3]), f"{ONE}: a size of it is an odd number"),
     ("ENTER outside", changed(PLAIN, JTAB - 2, [0, 240]), f"{ONE}: its ENTER leads to"),
     ("EXIT outside", changed(PLAIN, JTAB - 4, [2, 0]), f"{ONE}: its EXIT leads to"),

@@ -71,10 +71,10 @@ def damaged(source, data):
     return bytes(data)
 
 
-def try_damaged(count):
+def try_damaged(first, count):
     """A damaged file is refused at a place, or makes a file that `check` takes."""
-    source, taken = random.Random(1), 0
-    files = [random_file(seed).data for seed in range(40)]
+    source, taken = random.Random(first + 1), 0
+    files = [random_file(seed).data for seed in range(first, first + 40)]
     for number in range(count):
         data = damaged(source, source.choice(files))
         try:

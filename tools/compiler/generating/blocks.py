@@ -2,7 +2,8 @@
 
 from ..checking import tree
 from ..checking.types import LONG
-from .values import Values, words_of
+from .texts import with_length
+from .values import Values
 
 
 class Blocks(Values):
@@ -18,7 +19,7 @@ class Blocks(Values):
             self.push_address(self.place(value.location))
 
     def known_string(self, value):
-        self.text(words_of(value.text, len(value.text)))
+        self.text(with_length(value.text))
 
     def concatenation(self, value):
         room = self.temporary(value.type.size)

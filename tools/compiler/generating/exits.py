@@ -17,12 +17,13 @@ def nodes_of(node):
             waiting.extend(it.fields())
 
 
-def found_in(routines):
-    """For each routine the ones that it calls, and those that it names by EXIT."""
+def found_in(nodes):
+    """For each routine the ones that it calls, and those that it names by EXIT. `nodes` has those
+    of each."""
     calls, exits = {}, {}
-    for routine in routines:
+    for routine, own in nodes.items():
         calls[routine], exits[routine] = set(), set()
-        for node in nodes_of(routine.body):
+        for node in own:
             if isinstance(node, tree.Call):
                 calls[routine].add(node.routine)
             elif isinstance(node, tree.Exit):
@@ -30,10 +31,11 @@ def found_in(routines):
     return calls, exits
 
 
-def exits_of(routines):
+def exits_of(nodes):
     """For each routine the other ones that a call of it may end: what it and its callees name by
     EXIT, without itself; and what the EXITs in its callees name, itself among them."""
-    calls, exits = found_in(routines)
+    routines = list(nodes)
+    calls, exits = found_in(nodes)
     callees = {routine: calls[routine] & set(routines) for routine in routines}
     for routine in routines:
         exits[routine] -= {routine}

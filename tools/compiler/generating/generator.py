@@ -7,11 +7,11 @@ from pcode.parts import Procedure
 
 from ..checking.types import MOST_WORDS, String
 from .code import Code
-from .exits import exits_of
+from .exits import exits_of, nodes_of
 from .far import spread
 from .places import Frame
 from .statements import Statements
-from .texts import Texts
+from .texts import Texts, stored_texts
 
 MOST_ROUTINES = 255
 
@@ -82,11 +82,13 @@ class Generator:
 
     def __init__(self, routines, library, texts=None, line_end=10, is_packed=False):
         self.routines, self.library = list(routines), library
-        self.texts = Texts(texts or Counter())
         self.line_end, self.is_packed = line_end, is_packed
         self.main = routines[0]
         self.waiting = []  # routines of the library that are called, and not made yet
-        self.exits, self.asked = exits_of(self.routines)
+        nodes = {routine: list(nodes_of(routine.body)) for routine in self.routines}
+        self.exits, self.asked = exits_of(nodes)
+        stored = stored_texts(it for own in nodes.values() for it in own)
+        self.texts = Texts(texts or Counter(), stored)
 
     def procedures(self):
         """The procedures, in the order of their numbers."""

@@ -7,8 +7,7 @@ from ..checking.types import REAL
 from .blocks import Blocks
 from .exits import nodes_of
 from .places import Frame
-from .texts import cost, packed
-from .values import words_of
+from .texts import cost, packed, words_of
 
 # Of a table for CASE: the words that lead nowhere, for each constant.
 MOST_SPARE = 8
@@ -69,16 +68,13 @@ class Statements(Blocks):
         self.code.emit("MOV", node.words)
 
     def store_text(self, node):
-        words = words_of(node.text)
         self.push_address(self.place(node.location))
-        for word in reversed(words):
-            self.code.number(word - 65536 * (word > 32767))
-        self.code.emit("STM", len(words))
+        self.put_text(node.text)
 
     def write_text(self, node):
         parts = [node.text[k:k + SCRATCH] for k in range(0, len(node.text), SCRATCH)]
         size = sum(cost(self.written_words(it)[1]) + WRITING for it in parts)
-        routine = self.program.texts.routine(node, size, len(self.program.routines))
+        routine = self.program.texts.writer(node, size, len(self.program.routines))
         if routine and routine is not self.routine:
             self.enter(routine)
             return

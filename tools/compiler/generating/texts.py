@@ -1,11 +1,15 @@
-"""Texts that a program writes: one that is written again stands in a procedure of its own, and if
-they are to be packed three characters stand in a word."""
+"""Texts that are known: one that is written or stored again stands in a procedure of its own, and
+if those that are written are to be packed three characters stand in a word."""
+
+from collections import Counter
 
 from ..checking import tree
-from ..checking.symbols import Routine
+from ..checking.symbols import Routine, Variable
+from ..checking.types import String
 
 PROCEDURE = 16  # bytes that a procedure adds to a segment
 CALL = 2
+ADDRESS, STORE = 1, 2  # bytes of a parameter's load, and of what stores words
 MOST_ROUTINES = 200  # above it no text gets a procedure
 # What a symbol of 5 bits is: nothing, 26 letters, and these. SHIFT makes the next letter one of the
 # other case, and twice all that follow; OTHER leads to the characters from 33 to 63.
@@ -51,22 +55,70 @@ def packed(text, line_end):
     return [a + 32 * b + 1024 * c for a, b, c in zip(*[iter(symbols)] * 3)]
 
 
+def with_length(text):
+    """The characters of a string: its length is the first."""
+    return chr(len(text)) + text
+
+
+def words_of(text):
+    """The words of characters."""
+    data = text.encode("latin-1")
+    data += bytes(len(data) % 2)
+    return [int.from_bytes(data[k:k + 2], "little") for k in range(0, len(data), 2)]
+
+
+def stored_texts(nodes):
+    """How often each text is stored by nodes of a checked tree: in a variable, or where a string is
+    pushed."""
+    counts = Counter()
+    for node in nodes:
+        if isinstance(node, tree.StoreText):
+            counts[node.text] += 1
+        elif isinstance(node, tree.Concatenation):
+            counts.update(with_length(it.text) for it in node.parts
+                          if isinstance(it, tree.TextValue))
+        elif isinstance(node, (tree.StringAddress, tree.Copied)):
+            value = node.value if isinstance(node, tree.StringAddress) else node.text
+            if isinstance(value, tree.TextValue):
+                counts[with_length(value.text)] += 1
+    return counts
+
+
 class Texts:
-    """The procedures of texts that are written more than once. `counts` says how often each is."""
+    """The procedures of texts that are written, or stored, more than once. `written` and `stored`
+    say how often each is."""
 
-    def __init__(self, counts):
-        self.counts, self.routines = counts, {}
+    def __init__(self, written, stored):
+        self.written, self.stored = written, stored
+        self.writers, self.storers = {}, {}
 
-    def routine(self, node, size, count):
+    def writer(self, node, size, count):
         """The procedure that writes a text of so many bytes, if that makes the program smaller.
         The program has so many procedures now."""
         text = node.text
-        if text not in self.routines:
-            saved = (self.counts[text] - 1) * (size - CALL) - PROCEDURE
+        if text not in self.writers:
+            saved = (self.written[text] - 1) * (size - CALL) - PROCEDURE
             is_new = saved > 0 and count < MOST_ROUTINES
-            self.routines[text] = self.made(node) if is_new else None
-        return self.routines[text]
+            self.writers[text] = self.made(node) if is_new else None
+        return self.writers[text]
 
     def made(self, node):
         body = tree.Block([tree.WriteText(node.place, node.text)])
         return Routine("TEXT", 1, None, node.place, True, body=body)
+
+    def storer(self, text, words, place, count):
+        """The procedure that stores the words of a text at an address, if that makes the program
+        smaller. A text of one word has none, since it takes a step or two where it stands."""
+        if text not in self.storers:
+            size = cost(words) + STORE
+            saved = (self.stored[text] - 1) * (size - CALL) - CALL - ADDRESS - PROCEDURE
+            is_new = len(words) > 1 and saved > 0 and count < MOST_ROUTINES
+            self.storers[text] = self.storing(text, place) if is_new else None
+        return self.storers[text]
+
+    def storing(self, text, place):
+        routine = Routine("TEXT", 1, None, place, True, words=1, parameter_words=1)
+        where = Variable(String(len(text)), routine, 1, True)
+        location = tree.VariableAt(where.type, where)
+        routine.body = tree.Block([tree.StoreText(place, location, text)])
+        return routine

@@ -6,15 +6,9 @@ from ..checking import tree
 from ..checking.reals import words_of as words_of_real
 from ..checking.types import REAL
 from .places import Frame, Places
+from .texts import words_of
 
 EQUAL_JUMPS = {"EQUI": "EFJ", "NEQI": "NFJ"}  # they jump where it does not hold
-
-
-def words_of(text, length=None):
-    """The words of characters, with the length in front of them if it is given."""
-    data = (text if length is None else chr(length) + text).encode("latin-1")
-    data += bytes(len(data) % 2)
-    return [int.from_bytes(data[k:k + 2], "little") for k in range(0, len(data), 2)]
 
 
 class Values(Places):
@@ -32,7 +26,7 @@ class Values(Places):
             tree.ByteAddress: lambda it: self.push_bytes(it.location),
             tree.StringAddress: lambda it: self.string(it.value),
             tree.SetAddress: lambda it: self.set_address(it.value, it.words),
-            tree.TextValue: lambda it: self.text(words_of(it.text)),
+            tree.TextValue: lambda it: self.text(it.text),
             tree.Select: self.select, tree.LongAddress: lambda it: self.long_address(it.value),
             tree.LongFitted: self.long_fitted,
         }
@@ -58,14 +52,28 @@ class Values(Places):
         self.push(node.number)
         self.store(Frame(node.variable.routine, self.offset_of(node.variable)))
 
-    def text(self, words):
-        """Words that are known: they are put into a temporary, and its address is pushed."""
-        place = self.temporary(len(words))
-        self.store_words(place, words)
+    def text(self, text):
+        """A text that is known: it is put into a temporary, and its address is pushed."""
+        place = self.temporary(len(words_of(text)))
         self.push_address(place)
+        self.put_text(text)
+        self.push_address(place)
+
+    def put_text(self, text):
+        """Stores a text that is known at an address that is pushed."""
+        words, program = words_of(text), self.program
+        routine = program.texts.storer(text, words, self.code.place, len(program.routines))
+        if routine and routine is not self.routine:
+            self.enter(routine)
+        else:
+            self.put_words(words)
 
     def store_words(self, place, words):
         self.push_address(place)
+        self.put_words(words)
+
+    def put_words(self, words):
+        """Stores words that are known at an address that is pushed."""
         for word in reversed(words):
             self.code.number(word - 65536 * (word > 32767))
         self.code.emit("STM", len(words))
