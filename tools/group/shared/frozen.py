@@ -2,7 +2,12 @@
 read by tools/freezer, which makes it.
 
 A frozen program continues another one, and its output follows what that one has written. So the
-bytes of a console that --seen counts are those behind `wrote`."""
+bytes of a console that --seen counts are those behind `wrote`.
+
+    frozen.py FILE TEXT
+
+prints the end of a program that TEXT tells, if FILE was frozen: by the place in the original. For
+`console`."""
 
 import errno
 import os
@@ -56,3 +61,14 @@ def end_in_original(path, end):
     number, offset = Places(frozen.rows).place(int(found[1]), int(found[2]))
     place = f"in procedure {number} at {offset} of the original program"
     return end[: found.start()] + place
+
+
+def main():
+    path, end = sys.argv[1:]
+    told = end_in_original(path, end)
+    if told != end:
+        print(told)
+
+
+if __name__ == "__main__":
+    main()
