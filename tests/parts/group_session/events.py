@@ -281,7 +281,7 @@ def check_full(folder):
 
 
 CHECKS = (
-    check_full, check_refused, check_heard, check_nobody, check_consoles, check_not_kept, check_cut, check_long,
+    check_refused, check_heard, check_nobody, check_consoles, check_not_kept, check_cut, check_long,
     check_lost, check_late, check_came, check_kept, check_starts, check_renewed, check_others,
-    check_window,
+    check_window, check_full,
 )
