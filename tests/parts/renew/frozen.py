@@ -152,6 +152,8 @@ def check_freeze_refusals(folder):
             code_in(folder, "dividing", DIVIDING))
     refused(folder, "a file in the way", "has other bytes than the frozen program",
             change=lambda there: file_with(there, "frozen.code", b"precious"))
+    none = ["--freeze", os.path.join(folder, "none", "frozen.code")]
+    refused(folder, "a folder that is missing", "is missing: is its disk mounted?", more=none)
     refused(folder, "its own name", "is the program that is frozen", more=["--freeze", ECHO])
     there, words = room(folder, "first")
     expect_end("freeze: to know the new session", freeze(*words), 0)

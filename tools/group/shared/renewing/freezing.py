@@ -123,6 +123,9 @@ class Freezing:
 
     def check(self, is_over):
         """Refuses what is in the way. Returns for each console how many bytes it lacks."""
+        folder = os.path.dirname(self.to)
+        if not os.path.isdir(folder):
+            raise Refused(f"the folder {folder} is missing: is its disk mounted?")
         there = bytes_at(self.to)
         if there is not None and there != self.made.data:
             raise Refused(f"{self.to} is there already, and has other bytes than the frozen "
