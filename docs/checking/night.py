@@ -55,6 +55,7 @@ TOOL = "the name of a tool, whose messages are not looked at"
 OTHER_ROWS = {
     "last source ADDR": "the end of the line about dropped datagrams",
     "process P (..)": SHORT, "RECORD is a folder": SHORT, ".. is a pipe": SHORT,
+    "program frozen N times, after N keys and N bytes": "the library of tools/freeze says it",
     "node N: down; ..": SHORT, "RECORD: damaged: ..": SHORT, "programs": SHORT, "sizes": SHORT,
     "usage: ..": "Python's argparse prints it",
     "pgroup-compile": TOOL, "pgroup-translate": TOOL, "pgroup-volume": TOOL,

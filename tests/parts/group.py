@@ -9,6 +9,7 @@ import socket
 import subprocess
 import time
 
+from shared.frozen import wrote_before
 from shared.nodes import TURNS, command_of, dropped_at
 from shared.record import Damaged, keys_in, read_head, read_record
 from shared.words import ask, text_of_address
@@ -153,7 +154,8 @@ class Node(Running):
     def start(self, file, campaigns=False, env=None):
         """Starts the node. Its console goes on where it stopped."""
         self.sent = bytearray()
-        more = ["--seen", os.path.getsize(self.console)] + ["--campaign"] * campaigns
+        seen = os.path.getsize(self.console) - wrote_before(file)
+        more = ["--seen", seen] + ["--campaign"] * campaigns
         with open(self.console, "ab") as console, open(self.errors, "ab") as errors:
             self.process = subprocess.Popen(
                 self.command(file, *more), stdin=subprocess.DEVNULL, stdout=console,

@@ -44,7 +44,8 @@ A file is refused by one of these names:
   damaged     it was frozen, and is cut off
 
 Code of up to 26 KB, with that of the procedures under way, always fits, unless all 1,024 frames are
-under way. No compiler writes what `overlap` and `parameters` name.
+under way, or no number of a procedure below 256 is left. No compiler writes what `overlap` and
+`parameters` name.
 
 PGROUP=PROGRAM names the program pgroup; without it that of this repository or package is taken.
 

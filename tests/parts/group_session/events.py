@@ -1,8 +1,9 @@
 """What a session says and does at single events, with nodes that the test makes."""
 
 import contextlib
+import struct
 
-from ..checks import expect
+from ..checks import expect, passed
 from .made import Made, Play, cut
 
 
@@ -261,8 +262,26 @@ def check_window(folder):
         expect("in their order", play.nodes[1].got == text[160:288], play.nodes[1].got)
 
 
+def check_full(folder):
+    """It is said that keys wait since no place is left, once a majority has voted at the last."""
+    def votes(places):
+        return b"".join(b"\3" + struct.pack(">IIB", it, 1, 1) + b"\0" for it in places)
+
+    with played(folder) as play:
+        play.type(b"x")
+        for it in play.nodes:
+            it.write(b"\2" + struct.pack(">IB", 1, 1) + votes(range(65535)))
+        play.nodes[0].write(votes([65535]))
+        play.await_that(lambda: play.session.tally.decided.count(1) == 65535, "it has seen them")
+        full = "all places are taken; renew the session"
+        expect("a place is left", play.session.why_waiting() != full)
+        play.nodes[2].write(votes([65535]))
+        play.await_that(lambda: play.session.why_waiting() == full, "no place is left")
+    passed("why keys wait at a session that is full")
+
+
 CHECKS = (
     check_refused, check_heard, check_nobody, check_consoles, check_not_kept, check_cut, check_long,
     check_lost, check_late, check_came, check_kept, check_starts, check_renewed, check_others,
-    check_window,
+    check_window, check_full,
 )

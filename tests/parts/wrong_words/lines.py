@@ -57,6 +57,11 @@ LINES = """
 2 renew --file {code}
 2 renew --file {code} --generation x {record}
 2 renew --sessions 1 {record}
+2 renew --freeze {none} {record}
+2 renew --freeze {none} --file {code} --generation 2 {record}
+2 renew --sessions 7 8 {record} --consoles {none}
+1 renew --freeze {none} --file {none} {record}
+1 renew --freeze {none} --file {code} --session 1 {none}
 2 renew --sessions x y {record}
 1 renew --sessions 7 8 {none}
 1 renew --sessions 7 8 {noise}

@@ -9,6 +9,7 @@ import sys
 import time
 
 from .codes import with_sentence
+from .frozen import wrote_before
 from .journal import SPARING
 from .record import Damaged, read_record
 from .session import session_of
@@ -126,7 +127,8 @@ def check_new(words):
     """A new node has neither a record nor output."""
     if os.path.exists(words.record):
         raise Refused(f"--new, and there is {words.record}: leave --new out")
-    if os.path.isfile(words.console) and os.path.getsize(words.console) > 0:
+    before = wrote_before(words.file)
+    if os.path.isfile(words.console) and os.path.getsize(words.console) > before:
         raise Refused(f"--new, and {words.console} has output: of another session?")
 
 

@@ -4,6 +4,7 @@ import curses
 import time
 
 from .ends import with_end
+from .frozen import told_of
 from .seen import text_of_old
 from .watch import Group, line_of
 
@@ -36,7 +37,9 @@ def lines_of(group, height):
     ended, and the end of its console, with as many lines as there is room for."""
     room = max(1, (height - 3) // len(group.nodes) - 2)
     leader = group.leader()
-    lines = [time.strftime("%H:%M:%S ") + group.heading(), ""]
+    code = next((it.code for it in group.nodes if it.code), None)
+    more = [f"; {it}" for it in told_of(code)]
+    lines = [time.strftime("%H:%M:%S ") + group.heading() + "".join(more), ""]
     for node in group.nodes:
         lines += lines_of_node(node, leader, room)
     return lines + ["q or Ctrl-C ends this; the nodes keep running"]

@@ -7,6 +7,7 @@ import stat
 from .codes import with_sentence
 from .consoles import View
 from .ends import Log
+from .frozen import end_in_original
 from .nodes import stat_of
 from .record import (
     PLACES, START, Damaged, Head, places_of, read_record, record_of, text_of_ballot,
@@ -127,6 +128,20 @@ def state_of(pid):
         return None, None
 
 
+def code_of(pid, words):
+    """The code file of a node's process with these words behind `node`, or None."""
+    folder, plain = link_of(f"/proc/{pid}/cwd"), plain_words(words)
+    return os.path.join(folder, plain[0]) if folder and plain else None
+
+
+def node_at(path, processes):
+    """The process of the node of this record, with its words, or None twice."""
+    for pid, words in processes.items():
+        if any(is_at(path, pid, it) for it in words):
+            return pid, words
+    return None, None
+
+
 def file_of(pid, descriptor):
     """The file that a process has there, or None if it has none or that cannot be seen."""
     path = link_of(f"/proc/{pid}/fd/{descriptor}")
@@ -145,7 +160,7 @@ class Watched:
         self.is_log_given, self.log = log is not None, log and Log(log)
         self.head, self.view = Whole(path), View(screen)
         self.record, self.fault, self.pid, self.state = None, None, None, None
-        self.end, self.log_fault = None, None
+        self.end, self.log_fault, self.code = None, None, None
         # By which run it was seen that the record is older than it was, or None.
         self.later = None
 
@@ -158,15 +173,14 @@ class Watched:
             self.fault = f"damaged: {fault}"
         except OSError as fault:
             self.fault = fault.strerror
-        mine = [
-            pid for pid, words in processes.items()
-            if any(is_at(self.path, pid, it) for it in words)
-        ]
-        self.pid = mine[0] if mine else None
-        self.state, parent = state_of(self.pid) if mine else (None, None)
-        if self.given is None and mine:
+        self.pid, words = node_at(self.path, processes)
+        is_mine = self.pid is not None
+        self.state, parent = state_of(self.pid) if is_mine else (None, None)
+        if is_mine:
+            self.code = code_of(self.pid, words)
+        if self.given is None and is_mine:
             self.console = file_of(self.pid, 1) or self.console
-        if not self.is_log_given and mine:
+        if not self.is_log_given and is_mine:
             self.find_log(file_of(self.pid, 2) or file_of(parent, 2))
         self.look_at_log()
 
@@ -185,7 +199,8 @@ class Watched:
         except OSError as fault:
             self.log_fault = f"{self.log.path}: {fault.strerror}"
         if self.record:
-            self.end = self.log.end(self.record.node, self.record.session)
+            end = self.log.end(self.record.node, self.record.session)
+            self.end = end_in_original(self.code, end) if end and self.code else end
 
     def is_up(self):
         return self.state not in (None, "T", "t", "Z", "X")

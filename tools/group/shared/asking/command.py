@@ -2,8 +2,11 @@
 
 import argparse
 import shlex
+import sys
 
 from ..files import Refused, text_of_fault
+from ..frozen import told_of
+from ..full import told_of_full
 from ..supervising.key import key_of
 from ..words import address_of, put_out, text_of_address
 from .forms import json_of, metrics_of
@@ -40,6 +43,7 @@ def words_in(path):
     found.add_argument("--session", type=int)
     found.add_argument("--beats-key")
     found.add_argument("--record")
+    found.add_argument("--file")
     try:
         with open(path, encoding="utf-8") as file:
             lines = file.read().split("\n")
@@ -55,7 +59,7 @@ def words_in(path):
 def take_file(words):
     """Takes from a file of a supervisor's words what was not said."""
     taken = words_in(words.group)
-    for name in ("beats", "session", "beats_key"):
+    for name in ("beats", "session", "beats_key", "file"):
         if getattr(words, name) is None:
             setattr(words, name, getattr(taken, name))
 
@@ -91,5 +95,8 @@ def ask(words):
     if words.json or words.metrics:
         put_out(json_of(view) if words.json else metrics_of(view))
     else:
-        put_out("".join(f"{it}\n" for it in view.lines()))
+        put_out("".join(f"{it}\n" for it in [*view.lines(), *told_of(words.file)]))
+        places = max((it.places or 0 for it in states.values()), default=0)
+        for it in told_of_full(words.session, places, words.file):
+            print(it, file=sys.stderr)
     return UP if states else 1

@@ -81,10 +81,12 @@ class Target:
 
 
 class Making:
-    """The new records of a renewal. `sources` are the records of the old session."""
+    """The new records of a renewal. `sources` are the records of the old session. If the program
+    was frozen, `frozen` is the path of that file, and its bytes."""
 
-    def __init__(self, sources, targets, old, new):
+    def __init__(self, sources, targets, old, new, frozen=None):
         self.sources, self.targets, self.old, self.new = sources, targets, old, new
+        self.frozen = frozen
         self.lists = {list_name(it.place, old): it for it in sources}
 
     def wanted(self, path):
@@ -94,7 +96,12 @@ class Making:
             {"node": it.node, "record": os.path.relpath(it.path, folder),
              "sha256": hashlib.sha256(it.data).hexdigest()} for it in self.targets
         ]
-        return {"old session": self.old, "new session": self.new, "records": records}
+        says = {"old session": self.old, "new session": self.new, "records": records}
+        if self.frozen:
+            path, data = self.frozen
+            says["frozen"] = {"file": os.path.relpath(path, folder),
+                              "sha256": hashlib.sha256(data).hexdigest()}
+        return says
 
     def has_list(self):
         """Whether a list says that this was begun. Refuses one that says another thing."""

@@ -343,6 +343,8 @@ class Session:
         """Why keys wait, as far as that is known, or an empty text."""
         if self.away:
             return "no node that is seen here can take over"
+        if self.tally and self.tally.is_full():
+            return "all places are taken; renew the session"
         leader = self.leader()
         if leader is not False:
             return "earlier ones may still come" if self.held and self.losses.holds() else ""

@@ -64,6 +64,10 @@ class Tally:
         self.followed.setdefault(of, {})
         self.floors[of] = floor
 
+    def is_full(self):
+        """Whether all places of the session are taken: nothing more is chosen in it."""
+        return self.decided.count(1) == PLACES
+
     def forget(self, node, start, floor):
         """Forgets the keys up to this serial of a start that is followed."""
         of = node, start

@@ -13,6 +13,9 @@ The console is synced before it is noted, and what is noted is never changed. So
 note is right, also an older one that comes back with a cut of the power. A console that is no
 regular file, such as a terminal or a pipe, has none.
 
+Of a frozen program the bytes that were written before it continued are never cut, as no node writes
+them again: `renew` has synced them.
+
 With a limit the oldest bytes are given back to the disk, as a hole in the file (fallocate), so that
 its length still counts all that was written: no byte changes its place, for --seen and for those
 who follow the console. The note says from where on the bytes are there, and is in its place before
@@ -93,10 +96,12 @@ class Console:
         self.boot, self.due, self.syncing = boot_of_machine(), 0.0, None
         self.cannot_cut = False
         self.cuts = 0  # how often it was cut here
+        self.before = 0  # how many bytes were written before the program continued
 
-    def open(self):
-        """Opens it and cuts what is not trusted, once no process writes to it. Returns what is said
-        of a cut, or None."""
+    def open(self, before=0):
+        """Opens it and cuts what is not trusted, once no process writes to it; but not what was
+        written before the program continued. Returns what is said of a cut, or None."""
+        self.before = before
         if self.is_syncing(LONGEST):
             raise BlockingIOError(errno.EAGAIN, "waits for its disk", self.path)
         self.close()
@@ -115,18 +120,27 @@ class Console:
     def length(self):
         return os.fstat(self.file).st_size
 
+    def seen(self):
+        """How many bytes of the program's own output it has, or None where it lacks some of what
+        was written before."""
+        if self.place is None:
+            return 0  # It is a terminal or a pipe.
+        length = self.length()
+        return length - self.before if length >= self.before else None
+
     def mend(self):
         """Cuts the file to what is trusted, unless that is all of it."""
         length, note = self.length(), self.noted
         is_there = note is not None and note.length <= length
         is_followed = is_there and note.boot == self.boot != NO_BOOT
-        kept = note.length if is_there else 0
+        before = min(self.before, length)
+        kept = max(note.length if is_there else 0, before)
         nuls = nuls_in(self.path, kept, length)
         if is_followed and not nuls:
             return None
         first = note.first if kept else 0
         if not is_followed and nuls_in(self.path, first, kept):
-            nuls, kept = nuls_in(self.path, first, length), 0
+            nuls, kept = nuls_in(self.path, first, length), before
         if note and note.length != kept:
             remove_whole(self.place)
         self.noted = note if note and note.length == kept else None

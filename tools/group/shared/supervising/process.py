@@ -13,6 +13,7 @@ import time
 from ..codes import sentence_of, with_sentence
 from ..ends import end_of
 from ..files import Refused, check_session, promised_of, refuse_lasting, say, text_of_fault
+from ..frozen import end_in_original, wrote_before
 from ..locks import InUse, held
 from ..nodes import command_of, stat_of
 from ..words import text_of_address
@@ -125,8 +126,8 @@ class Node:
         check_session(self.words)
         self.before = promised_of(self.words, self.is_new)
         parent = os.getpid()
-        self.open_console()
-        command = self.command(self.console.length())
+        self.open_console(wrote_before(self.words.file))
+        command = self.command(self.seen())
         speech = Speech(is_log_asked(), self.note)
         self.process = speech.leave_to(lambda begin: subprocess.Popen(
             command, stdin=subprocess.DEVNULL, stdout=self.console.file, stderr=begin,
@@ -138,13 +139,24 @@ class Node:
         self.end, self.text = None, None
         say(self.words, f"started, process {self.process.pid}")
 
-    def open_console(self):
+    def seen(self):
+        """How many bytes of its output the console has. Refuses one that lacks what no node writes
+        again."""
+        seen, console = self.console.seen(), self.console
+        if seen is None:
+            raise Refused(
+                f"{console.path} has {console.length()} bytes, and {self.words.file} continues "
+                f"after {console.before}: put a copy of another node's console there"
+            )
+        return seen
+
+    def open_console(self, before):
         """Opens the console while no other process is at the record, so that none writes to it.
         Where the lock cannot be had at all, the node will refuse to run, and why is said then."""
         with contextlib.ExitStack() as lock:
             with contextlib.suppress(OSError):
                 lock.enter_context(held(self.words.record))
-            cut = self.console.open()
+            cut = self.console.open(before)
         if cut:
             say(self.words, cut)
 
@@ -177,6 +189,7 @@ class Node:
         if text.startswith(FAULTS):
             self.fault = time.time(), text
         if end is not None:
+            end = end_in_original(self.words.file, end)
             how = f", by {end}" if end else ""
             self.end = end
             goes_on = "the node keeps running, and nobody reads what is typed"
