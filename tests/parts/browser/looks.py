@@ -40,6 +40,31 @@ CONTRASTS = r"""
 })()
 """
 
+# Texts that end at the edge of their box, and those of a picture that reach out of it.
+CUT = r"""
+(() => {
+  const found = [];
+  for (const it of document.querySelectorAll("body *")) {
+    const box = it.getBoundingClientRect();
+    if (!box.width || it.closest(".unseen") || !it.textContent.trim()) continue;
+    if (it instanceof SVGTextElement) {
+      const picture = it.ownerSVGElement.getBoundingClientRect();
+      if (box.left < picture.left - 1 || box.right > picture.right + 1) found.push(it.textContent);
+    } else if (it instanceof HTMLElement && it.scrollWidth > it.clientWidth + 1
+        && ["hidden", "clip"].includes(getComputedStyle(it).overflowX)) {
+      found.push(it.textContent.trim().slice(0, 40));
+    }
+  }
+  return found;
+})()
+"""
+LEGEND = """
+(() => {
+  const it = document.querySelector(".legend"), box = it.getBoundingClientRect();
+  return box.height >= 10 && it.scrollWidth <= it.clientWidth;
+})()
+"""
+
 
 ROLES = ("banner", "main", "heading", "log", "status", "region")
 
@@ -75,3 +100,9 @@ def check_width(tab, what, width):
       return box.width && (box.width < 24 || box.height < 24);
     }).map((it) => it.textContent)""")
     expect(f"{what}: each button has 24 pixels at least", not small, small)
+
+
+def check_legend(tab, what):
+    expect(f"{what}: the legend is there, and fits", tab.run(LEGEND))
+    cut = tab.run(CUT)
+    expect(f"{what}: no text is cut off", not cut, cut)
