@@ -8,7 +8,6 @@ from pcode.faults import Fault
 from pcode.files import drop_output, write_whole
 from volumes.text import decoded, is_text_file
 
-from . import report
 from .parsing.texts import read_text
 from .program import HEAP, LINE_ENDS, SCREENS, Options, Refused, compile_text
 from .runtime import FILES, keep_library, path_of
@@ -145,6 +144,16 @@ def library():
         yield read_text(path_of(name))
 
 
+def told(program, words):
+    """What is printed of a program. What makes it is loaded for that alone, as argparse is."""
+    from . import report
+    if words.asm:
+        return "\n".join(report.assembly(program))
+    if words.list:
+        return "\n".join(report.listing(program))
+    return report.line_at(program, *words.where, words.file)
+
+
 def make(words):
     """Does what the words say."""
     if words.library:
@@ -157,12 +166,8 @@ def make(words):
     keep_library()
     for note in program.notes:
         print(note, file=sys.stderr)
-    if words.asm:
-        print("\n".join(report.assembly(program)))
-    elif words.list:
-        print("\n".join(report.listing(program)))
-    elif words.where:
-        print(report.line_at(program, *words.where, words.file))
+    if words.asm or words.list or words.where:
+        print(told(program, words))
     elif not words.check:
         target = words.output or os.path.splitext(words.file)[0] + ".code"
         if os.path.abspath(target) == os.path.abspath(words.file):
