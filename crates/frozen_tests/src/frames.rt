@@ -1,0 +1,169 @@
+//! A program that waits with two frames under way, in the middle of a read.
+use crate::checks::{Both, is_accepted_by_this_list_alone, pairs_of, program, waiting};
+use pcode_frames::Frame;
+use pcode_frozen::are_twin_states;
+use std::test::Fail;
+
+/// What tools/assemble makes of these lines. READS takes two keys at a time, counts those that
+/// begin with an A by its static link, and ends at a B.
+///
+/// ```text
+/// proc 3 reads level 2 params 0 data 0
+/// again:  SLDC 2
+///         LAO 3
+///         SLDC 0
+///         SLDC 2
+///         SLDC 0
+///         SLDC 0
+///         CSP 5
+///         LAO 3
+///         SLDC 0
+///         LDB
+///         UJP case
+/// count:  LOD 1 1
+///         SLDC 1
+///         ADI
+///         STR 1 1
+///         UJP again
+/// exit:   RNP 0
+/// case:   XJP 'A' 'B' again count exit
+/// proc 2 counts level 1 params 1 data 0
+///         CLP reads
+///         SLDL 1
+///         SRO 4
+/// exit:   RNP 0
+/// proc 1 main level 0 params 2 data 4
+///         SLDC 7
+///         CGP counts
+/// exit:   RBP 0
+/// ```
+const READS: [u8; 92] = [
+    0x02, 0xa5, 0x03, 0x00, 0x02, 0x00, 0x00, 0x9e, 0x05, 0xa5, 0x03, 0x00, 0xbe, 0xb9, 0x0c, 0xb6,
+    0x01, 0x01, 0x01, 0x82, 0xb8, 0x01, 0x01, 0xb9, 0xf6, 0xad, 0x00, 0xac, 0x41, 0x00, 0x42, 0x00,
+    0xb9, 0xf6, 0x13, 0x00, 0x0b, 0x00, 0x26, 0x00, 0x00, 0x00, 0x00, 0x00, 0x13, 0x00, 0x2e, 0x00,
+    0x03, 0x02, 0xce, 0x03, 0xd8, 0xab, 0x04, 0xad, 0x00, 0x00, 0x00, 0x00, 0x02, 0x00, 0x07, 0x00,
+    0x0e, 0x00, 0x02, 0x01, 0x07, 0xcf, 0x02, 0xc1, 0x00, 0x00, 0x08, 0x00, 0x04, 0x00, 0x07, 0x00,
+    0x0c, 0x00, 0x01, 0x00, 0x24, 0x00, 0x14, 0x00, 0x06, 0x00, 0x01, 0x03,
+];
+
+/// What tools/freeze makes of it where it has read AxB.
+const READS_FROZEN: [u8; 198] = [
+    0x02, 0xa5, 0x03, 0x00, 0x02, 0x00, 0x00, 0x9e, 0x05, 0xa5, 0x03, 0x00, 0xbe, 0xb9, 0x0c, 0xb6,
+    0x01, 0x01, 0x01, 0x82, 0xb8, 0x01, 0x01, 0xb9, 0xf6, 0xad, 0x00, 0xac, 0x41, 0x00, 0x42, 0x00,
+    0xb9, 0xf6, 0x13, 0x00, 0x0b, 0x00, 0x26, 0x00, 0x00, 0x00, 0x00, 0x00, 0x13, 0x00, 0x2e, 0x00,
+    0x03, 0x02, 0xce, 0x03, 0xd8, 0xab, 0x04, 0xad, 0x00, 0x00, 0x00, 0x00, 0x02, 0x00, 0x07, 0x00,
+    0x0e, 0x00, 0x02, 0x01, 0x07, 0xcf, 0x02, 0xc1, 0x00, 0x9f, 0xae, 0x04, 0xb9, 0xf6, 0x07, 0x00,
+    0x08, 0x00, 0x04, 0x00, 0x0d, 0x00, 0x0d, 0x00, 0x01, 0x00, 0xce, 0x03, 0xd8, 0xab, 0x04, 0xad,
+    0x00, 0xae, 0x05, 0xb9, 0xf6, 0x00, 0x0a, 0x00, 0x00, 0x00, 0x02, 0x00, 0x0d, 0x00, 0x0d, 0x00,
+    0x04, 0x01, 0x02, 0xa5, 0x03, 0x00, 0x02, 0x00, 0x00, 0x9e, 0x05, 0xa5, 0x03, 0x00, 0xbe, 0xb9,
+    0x0c, 0xb6, 0x01, 0x01, 0x01, 0x82, 0xb8, 0x01, 0x01, 0xb9, 0xf6, 0xad, 0x00, 0xac, 0x41, 0x00,
+    0x42, 0x00, 0xb9, 0xf6, 0x13, 0x00, 0x0b, 0x00, 0xa5, 0x03, 0x08, 0x00, 0x00, 0x00, 0xc7, 0x42,
+    0x78, 0xbd, 0x05, 0x02, 0x07, 0x00, 0x01, 0x00, 0x00, 0xb9, 0xf4, 0x00, 0x33, 0x00, 0x3c, 0x00,
+    0x00, 0x00, 0x00, 0x00, 0x29, 0x00, 0x1e, 0x00, 0x05, 0x02, 0x02, 0x00, 0x4c, 0x00, 0x8e, 0x00,
+    0x7e, 0x00, 0x6a, 0x00, 0x01, 0x05,
+];
+
+/// The places that tools/freeze compared in its own check of that file (`Likeness.seen` of
+/// tools/freezer/checking.py), in their order: a place of the original, and that of the file.
+const READS_PAIRS: [[u8; 4]; 23] = [
+    [1, 71, 1, 71],
+    [2, 52, 4, 92],
+    [2, 53, 4, 93],
+    [2, 55, 4, 95],
+    [3, 0, 5, 114],
+    [3, 1, 5, 115],
+    [3, 3, 5, 117],
+    [3, 4, 5, 118],
+    [3, 5, 5, 119],
+    [3, 6, 5, 120],
+    [3, 7, 5, 121],
+    [3, 9, 5, 123],
+    [3, 11, 5, 125],
+    [3, 12, 5, 126],
+    [3, 13, 5, 127],
+    [3, 15, 5, 129],
+    [3, 18, 5, 132],
+    [3, 19, 5, 133],
+    [3, 20, 5, 134],
+    [3, 23, 5, 137],
+    [3, 25, 5, 139],
+    [3, 27, 5, 141],
+    [3, 32, 5, 146],
+];
+
+/// The frames of the original there, by `pgroup state`.
+const FRAMES: [Frame; 3] = [
+    Frame {
+        procedure: 1,
+        base: 0,
+        size: 6,
+        link: 0,
+        back: 0,
+    },
+    Frame {
+        procedure: 2,
+        base: 6,
+        size: 1,
+        link: 0,
+        back: 71,
+    },
+    Frame {
+        procedure: 3,
+        base: 7,
+        size: 0,
+        link: 1,
+        back: 52,
+    },
+];
+
+/// Its next offset, and that of the UNITREAD, by `pgroup state`.
+const NEXT: u32 = 9;
+
+const AT: u32 = 7;
+
+/// Offsets of which one is another one. All of them are listed.
+const OTHER_OFFSETS: [(u32, u32); 4] = [(7, AT), (11, AT), (NEXT, 6), (NEXT, NEXT)];
+
+/// Returns the frames with another static link in the one of that index.
+fn with_other_link(index: usize) -> [Frame; 3] {
+    let mut frames = FRAMES;
+    if let Some(frame) = frames.get_mut(index) {
+        frame.link = 2;
+    }
+    frames
+}
+
+/// Shows what no clause says: frames, a static link, a case jump
+/// and a half read are accepted by the pairs that the freezer saw, and by no list with one of them
+/// missing or in a wrong place. Nor are other links or offsets.
+#[test]
+fn two_frames_and_half_a_read(rt: HostRuntime) -> Result<(), Fail> {
+    let original = program(rt.alloc(), &READS)?;
+    let frozen = program(rt.alloc(), &READS_FROZEN)?;
+    let machine = waiting(rt.alloc(), &frozen)?;
+    let pairs = pairs_of(rt.alloc(), &READS_PAIRS)?;
+    let pairs = pairs.as_slice();
+    let both = Both {
+        original: &original,
+        frozen: &frozen,
+        machine: &machine,
+        frames: &FRAMES,
+        next: NEXT,
+        at: AT,
+    };
+    assert!(rt; is_accepted_by_this_list_alone(rt.alloc(), &both, pairs)?);
+    for index in 0..3 {
+        let frames = with_other_link(index);
+        assert!(rt;
+            !are_twin_states(&frozen, pairs, &machine, &frames, NEXT, AT),
+            "{index}"
+        );
+    }
+    for (next, at) in OTHER_OFFSETS {
+        assert!(rt;
+            !are_twin_states(&frozen, pairs, &machine, &FRAMES, next, at),
+            "{next} {at}"
+        );
+    }
+    Ok(())
+}
