@@ -85,7 +85,7 @@ def edits_of(functions, crate):
 
 # The comment and the attributes above a test, and its name.
 TEST = re.compile(
-    r"((?:^[ \t]*///?[^\n]*\n)*^[ \t]*#\[test\]\n(?:^[ \t]*(?:#|///?)[^\n]*\n)*)"
+    r"((?:^[ \t]*//[^\n]*\n)*^[ \t]*#\[test\]\n(?:^[ \t]*(?:#|//)[^\n]*\n)*)"
     r"[ \t]*(?:pub )?fn (\w+)", re.M,
 )
 
