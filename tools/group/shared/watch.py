@@ -78,11 +78,20 @@ def node_processes():
     return found
 
 
+def said_keys(words):
+    """The addresses of keys in a node's words."""
+    said = [it.split("=", 1)[-1] for it in words if it.startswith("--keys=")]
+    return said + [after for word, after in zip(words, words[1:]) if word == "--keys"]
+
+
 def has_keys_at(words, address):
     """Whether a node with these words takes its keys at this address."""
-    said = [it.split("=", 1)[-1] for it in words if it.startswith("--keys=")]
-    said += [after for word, after in zip(words, words[1:]) if word == "--keys"]
-    return text_of_address(address) in said
+    return text_of_address(address) in said_keys(words)
+
+
+def keys_of(words):
+    """The port to which the keys of a node with these words come, or 0."""
+    return int(next(iter(said_keys(words)), ":0").rpartition(":")[2])
 
 
 def plain_words(words):

@@ -4,9 +4,10 @@ import argparse
 import shlex
 import sys
 
+from ..continued import follow_words
 from ..files import Refused, text_of_fault
 from ..frozen import told_of
-from ..full import told_of_full
+from ..full import told_of_full, told_of_machines
 from ..supervising.key import key_of
 from ..words import address_of, put_out, text_of_address
 from .forms import json_of, metrics_of
@@ -42,8 +43,11 @@ def words_in(path):
     found.add_argument("--beats", type=address_of, nargs="+")
     found.add_argument("--session", type=int)
     found.add_argument("--beats-key")
+    found.add_argument("--id", type=int)
     found.add_argument("--record")
+    found.add_argument("--console")
     found.add_argument("--file")
+    found.add_argument("--renew-at", type=int)
     try:
         with open(path, encoding="utf-8") as file:
             lines = file.read().split("\n")
@@ -57,8 +61,10 @@ def words_in(path):
 
 
 def take_file(words):
-    """Takes from a file of a supervisor's words what was not said."""
-    taken = words_in(words.group)
+    """Takes from a file of a supervisor's words what was not said. The session may have been
+    renewed since."""
+    taken = words.taken = words_in(words.group)
+    follow_words(taken)
     for name in ("beats", "session", "beats_key", "file"):
         if getattr(words, name) is None:
             setattr(words, name, getattr(taken, name))
@@ -84,11 +90,21 @@ def check_words(parser, words):
         parser.error("only one of --check, --json and --metrics")
 
 
+def told_of_places(words, session, places):
+    """What to type as most places are taken. The code file that is named is of the session that was
+    asked for."""
+    taken, file = getattr(words, "taken", None), words.file if session == words.session else None
+    hosts = [host for host, _ in words.beats]
+    if len(set(hosts)) == 1:
+        return told_of_full(session, places, file)
+    return told_of_machines(session, places, hosts, file, taken)
+
+
 def ask(words):
     """Asks and prints. Returns the status."""
     key = key_of(words.beats_key) if words.beats_key else None
-    states = states_of(words.beats, words.session, key, words.wait)
-    view = View(words.session, [text_of_address(it) for it in words.beats], states)
+    session, states = states_of(words.beats, words.session, key, words.wait)
+    view = View(session, [text_of_address(it) for it in words.beats], states)
     if words.check:
         put_out(view.heading() + "\n")
         return view.status()
@@ -97,6 +113,6 @@ def ask(words):
     else:
         put_out("".join(f"{it}\n" for it in [*view.lines(), *told_of(words.file)]))
         places = max((it.places or 0 for it in states.values()), default=0)
-        for it in told_of_full(words.session, places, words.file):
+        for it in told_of_places(words, session, places):
             print(it, file=sys.stderr)
     return UP if states else 1

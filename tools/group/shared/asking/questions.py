@@ -1,5 +1,6 @@
 """Asks the supervisors of a group for their state."""
 
+import collections
 import secrets
 import select
 import socket
@@ -13,7 +14,8 @@ TIMES_ASKED = 4
 
 
 def states_of(addresses, session, key=None, seconds=1.0):
-    """What the supervisors at these addresses, in the order of the nodes, answer within this time,
+    """What the supervisors at these addresses, in the order of the nodes, answer within this time:
+    the session, which is another one if theirs continues the one that is asked for, and the states
     by the numbers of their nodes."""
     nonce, nodes = secrets.token_hex(8), {it: node for node, it in enumerate(addresses, 1)}
     data = question(session, nonce, (lambda it: signed(it, key)) if key else None)
@@ -28,10 +30,12 @@ def states_of(addresses, session, key=None, seconds=1.0):
                     pass  # There is no way to it now.
             until = end - seconds * (1 - turn / TIMES_ASKED)
             for source, came in heard_until(asker, until, lambda: len(states) == len(nodes)):
-                node, state = nodes.get(source), state_of(came, session, nonce, key)
+                node, (of, state) = nodes.get(source), state_of(came, nonce, key)
                 if state and state.node == node:
-                    states[node] = state
-    return dict(sorted(states.items()))
+                    states[node] = of, state
+    counts = collections.Counter(of for of, _ in states.values())
+    session = max(counts, key=lambda it: (counts[it], it != session), default=session)
+    return session, {node: it for node, (of, it) in sorted(states.items()) if of == session}
 
 
 def heard_until(asker, end, is_over):
@@ -47,9 +51,7 @@ def heard_until(asker, end, is_over):
         yield source, data
 
 
-def state_of(data, session, nonce, key):
-    """The state in an answer to this question, or None."""
-    if key and not is_signed(data, key):
-        return None
-    found = state_in(data)
-    return found[2] if found and found[:2] == (session, nonce) else None
+def state_of(data, nonce, key):
+    """The session and the state in an answer to the question with this nonce, or None twice."""
+    found = state_in(data) if not key or is_signed(data, key) else None
+    return (found[0], found[2]) if found and found[1] == nonce else (None, None)

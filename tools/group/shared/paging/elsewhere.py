@@ -6,6 +6,7 @@ import time
 from ..asking.command import words_in
 from ..asking.questions import states_of
 from ..asking.view import View
+from ..continued import follow_words
 from ..ends import with_end
 from ..files import Refused
 from ..record import text_of_ballot
@@ -38,6 +39,7 @@ def asked_of(path):
     words = words_in(path)
     if words.beats is None or words.session is None:
         raise Refused(f"{path}: it says no --beats, or no --session")
+    follow_words(words)
     return words
 
 
@@ -66,8 +68,9 @@ class Elsewhere:
     def serve(self):
         while True:
             begun = time.monotonic()
-            states = states_of(self.asked.beats, self.asked.session, self.key, WAITED)
-            self.note(View(self.asked.session, self.addresses, states))
+            follow_words(self.asked)
+            session, states = states_of(self.asked.beats, self.asked.session, self.key, WAITED)
+            self.note(View(session, self.addresses, states))
             time.sleep(max(0.0, ASKED - (time.monotonic() - begun)))
 
     def note(self, view):

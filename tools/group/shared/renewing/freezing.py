@@ -43,6 +43,20 @@ def difference(one, other):
     return next(at for at, (a, b) in enumerate(zip(one, other)) if a != b)
 
 
+def is_torn(has, wanted):
+    """Whether these bytes are the output's, but for NULs that a cut of the power may have left in
+    place of some."""
+    return len(has) <= len(wanted) and all(one in (0, other) for one, other in zip(has, wanted))
+
+
+def sync(path):
+    file = os.open(path, os.O_RDONLY | os.O_CLOEXEC)
+    try:
+        os.fsync(file)
+    finally:
+        os.close(file)
+
+
 class Console:
     """A console of the old session. `base` bytes of it were written before FILE was frozen, and
     `output` follows them."""
@@ -67,19 +81,24 @@ class Console:
         wanted = self.output[begin - self.base:]
         count = min(len(has), len(wanted))
         if has[:count] != wanted[:count]:
-            at = begin + difference(has, wanted)
-            raise Refused(f"{self.path} is no beginning of what the program has written: it "
-                          f"differs at byte {at}; put a copy of another node's console there")
-        if len(has) > count and not is_over:
+            count = difference(has, wanted)
+            if not is_torn(has[count:], wanted[count:]):
+                raise Refused(
+                    f"{self.path} is no beginning of what the program has written: it differs at "
+                    f"byte {begin + count}; put a copy of another node's console there")
+        elif len(has) > count and not is_over:
             raise Refused(f"{self.path} has {len(has) - count} bytes more than the program writes "
                           f"on these keys: is {self.path} of this session, and are all records?")
         return wanted[count:]
 
     def complete(self):
-        """Adds what it lacks, syncs it, and notes that."""
+        """Adds what it lacks, in place of NULs if there are any, syncs it, and notes that."""
         rest = memoryview(self.lacking(True))
         file = os.open(self.path, os.O_WRONLY | os.O_APPEND | os.O_CLOEXEC)
         try:
+            kept = self.base + len(self.output) - len(rest)
+            if rest and os.fstat(file).st_size > kept:
+                os.ftruncate(file, kept)
             while rest:
                 rest = rest[os.write(file, rest):]
             os.fsync(file)
@@ -131,6 +150,10 @@ class Freezing:
             raise Refused(f"{self.to} is there already, and has other bytes than the frozen "
                           "program: give it another name, or call this with the same arguments")
         return {it.path: len(it.lacking(is_over)) for it in self.consoles}
+
+    def sync_consoles(self):
+        for it in self.consoles:
+            sync(it.path)
 
     def put(self, like):
         """Puts the frozen program in its place, with the owner and the rights of the file `like`,

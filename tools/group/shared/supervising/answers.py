@@ -1,6 +1,7 @@
 """What a supervisor answers to a question of state: its own view of its node, and whom it hears.
 
-Only machines of the list are answered: those of --beats, and those of --asked-by. With a key the
+Only machines of the list are answered: those of --beats, and those of --asked-by. Whoever asks for
+a session that was renewed, with --renew-at, is told of the one that continues it. With a key the
 question has to be signed, and the answer is. An answer is never longer than ten times the question,
 and there are at most so many in a second: so nobody is flooded by answers to a false source."""
 
@@ -53,7 +54,7 @@ class Answers:
     def answer(self, data, source):
         """The answer to what has come from a source, or None."""
         asked = asked_in(data) if source[0] in self.hosts else None
-        if asked is None or asked[0] != self.words.session:
+        if asked is None or asked[0] not in (self.words.session, *self.words.earlier):
             return None
         if self.key and not is_signed(data, self.key) or self.is_too_much():
             return None

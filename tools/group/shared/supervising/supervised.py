@@ -5,6 +5,7 @@ import os
 import shlex
 import sys
 
+from ..record import PLACES
 from ..words import address_of, host_of
 from .traces import limit_of
 
@@ -21,6 +22,13 @@ def console_limit_of(text):
     """The word of --console-limit."""
     if not text.isdigit() or int(text) < LEAST_CONSOLE:
         raise argparse.ArgumentTypeError(f"{text} is no number of at least {LEAST_CONSOLE} bytes")
+    return int(text)
+
+
+def places_of(text):
+    """The word of --renew-at."""
+    if not text.isdigit() or not 1 <= int(text) <= PLACES:
+        raise argparse.ArgumentTypeError(f"{text} is no number of places from 1 to {PLACES}")
     return int(text)
 
 
@@ -52,6 +60,8 @@ def add_words(add):
     add("--new-beats-key", action="store_true", help="make the file of --beats-key")
     add("--silent", metavar="SECONDS", type=float, default=3.0,
         help="how long no leader is heard before a node is asked (3)")
+    add("--renew-at", metavar="N", type=places_of, help="renew the session by freezing once N of "
+        "its 65536 places are taken, if all nodes are on this machine and have this too")
     add("--new", action="store_true", help="the node is new: there is no record yet")
     add(RUN_ON_OLD, action="store_true", dest="run_on_old", help="start the node on a record that "
         "is older than what was seen of it; to be typed each time, and not in a file of arguments")
@@ -90,4 +100,6 @@ def words_of(parser):
         # What a file of words may do to argparse: no text, a quotation without an end, itself.
         parser.error(f"{' '.join(it for it in sys.argv[1:] if it[:1] == '@')}: {fault}")
     check_words(parser, words)
+    # Before when it is not tried again to renew the session; and those that were renewed.
+    words.renew_due, words.earlier = 0.0, []
     return words
