@@ -5,6 +5,7 @@ import re
 import subprocess
 
 from shared.nodes import children_of, dropped_at, free_addresses
+from shared.watch import words_of_process
 from shared.words import text_of_address
 
 from .echo_code import ECHO
@@ -76,8 +77,10 @@ class Supervised(Running):
         return dropped_at(self.nodes[self.number - 1][1]) is None and not self.is_bound()
 
     def node(self):
-        """Returns the node's process, or None."""
+        """Returns the node's process, or None. A supervisor that renews has another one too."""
         found = children_of(self.process.pid) if self.process else []
+        if len(found) > 1:
+            found = [it for it in found if "--freeze" not in words_of_process(it)]
         if len(found) > 1:
             raise Broken(f"the supervisor of node {self.number} has {len(found)} nodes")
         return found[0] if found else None

@@ -30,9 +30,9 @@ from .consoles import boot_of_machine
 from .process import end_with
 from .supervised import SHARED
 
-# How often it is told that this supervisor renews, how long that counts, and how long the others
-# are waited for after a start, in seconds.
-TOLD, COUNTS, FIRST = 1.0, 6.0, 6.0
+# How often it is told that this supervisor renews, how long that counts, and for how long something
+# has to be in the way until it is said, in seconds.
+TOLD, COUNTS, FIRST = 1.0, 6.0, 5.0
 # How long nobody has to have typed; how long nodes may take to end; the pause before something that
 # has failed is tried again: a step, and the whole; and how long another supervisor is waited for
 # until a line says so. In seconds.
@@ -142,7 +142,7 @@ class Renewing:
         self.words, self.node, self.head, self.office = words, node, head, office
         self.is_under_way, self.boot = is_under_way, boot_of_machine()
         self.begun = self.since = time.monotonic()
-        self.told, self.told_due, self.text = {}, 0.0, None
+        self.told, self.told_due, self.text, self.why = {}, 0.0, None, None
         self.call, self.due, self.is_rehearsed = None, 0.0, False
         # How far the record was when it was looked at last, and when it has grown.
         self.at, self.grown = None, self.begun
@@ -196,18 +196,26 @@ class Renewing:
         if self.head.at != self.at:
             self.at, self.grown = self.head.at, now
         places, least = self.head.places, max(self.due, self.words.renew_due)
-        is_early = now - self.begun < FIRST and len(self.told) < self.words.size - 1
-        if places is None or places < self.words.renew_at or now < least or is_early:
+        if places is None or places < self.words.renew_at or now < least:
             return
         self.due = now + QUIET / 4
         is_mine = self.words.id == 1
         nodes = self.nodes_or_why(now) if is_mine else self.why_of(1, now)
         if isinstance(nodes, str):
-            self.tell_kept(places, nodes)
+            self.note_why(places, nodes, now)
         elif is_mine:
             plan = self.plan(nodes)
             if self.has_rehearsed(plan, places, now) and self.is_quiet(nodes, places, now):
                 plans.begin(plan)
+
+    def note_why(self, places, why, now):
+        """What is in the way is said once it has been for a while: it may be a node that is just
+        started again."""
+        if why != self.why:
+            self.why, self.since = why, now
+        elif self.since is not None and now - self.since > FIRST:
+            self.since = None
+            self.tell_kept(places, why)
 
     def tell_kept(self, places, why):
         self.tell(f"does not renew session {self.words.session}, which has {places} of {PLACES} "
