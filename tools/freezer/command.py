@@ -9,7 +9,7 @@ from pcode.files import drop_output, read_whole, write_whole
 from pcode.words import Parser
 
 from .frozen import Places, frozen_in
-from .making import checked, frozen_after
+from .making import checked, frozen_after, proved
 from .refused import Refused
 from .state import state_after
 
@@ -27,7 +27,8 @@ EXAMPLES = """examples:
 
 FILE may be frozen itself. Then its original is frozen again, so no file grows. Each frozen file is
 checked before it is written: started on nothing it has to wait in the same configuration, and each
-place where it may go on has to have the same instructions. The check is not proved.
+place where it may go on has to have the same instructions. That check is not proved. If pgroup has
+the command `frozen`, which is, it has to print the same of the frozen file as of the original.
 
 A file is refused by one of these names:
 
@@ -40,6 +41,7 @@ A file is refused by one of these names:
   file        pgroup refuses it
   state       pgroup has no command `state`, or another text of it
   check       the frozen file is wrong, which is a fault of freeze
+  proof       pgroup frozen refuses it, or does not agree with where the original stands
   original    it was never frozen
   damaged     it was frozen, and is cut off
 
@@ -119,7 +121,8 @@ def make(words):
     if words.check:
         made = read_whole(words.check)
         it = checked(program, data, made, state_after(program, words.file, given))
-        print(f"{words.check}: {it.frozen.told()}; {it.places} places are alike")
+        it = proved(program, words.file, data, given, it)
+        print(f"{words.check}: {it.frozen.told()}; {it.told()}")
         return
     it = frozen_after(program, words.file, data, given)
     write_whole(target, it.data)

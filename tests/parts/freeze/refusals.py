@@ -84,7 +84,7 @@ def try_tool():
     place = tool("--map", "frozen.code", str(row.number), str(row.begin))
     must(place == (0, f"procedure {row.of} at {row.back}\n", ""), place)
     alike = tool(ADVENTURE, "--check", "frozen.code", given=b"LOOK\n")
-    must(alike[0] == 0 and "places are alike" in alike[1], alike)
+    must(alike[0] == 0 and "places are alike; " in alike[1], alike)
     passed("an older file stays; facts, places and checks are told")
 
 
@@ -116,4 +116,34 @@ def try_arguments():
     passed("wrong arguments")
 
 
-TESTS = (try_refused_files, try_tool, try_files, try_arguments)
+def answering(command):
+    """A program that does this in place of `frozen`, and all else as the program does."""
+    with open("answering", "w", encoding="utf-8") as file:
+        file.write(f'#!/bin/sh\n[ "$1" = frozen ] || exec {PROGRAM} "$@"\n{command}\n')
+    os.chmod("answering", 0o755)
+    return os.path.realpath("answering")
+
+
+def try_asked():
+    """What `pgroup frozen` says of the frozen file decides, if the program has it."""
+    keys = put(b"LOOK\n", "keys")
+    same = f"{PROGRAM} state {ADVENTURE} --steps 4000000 < {keys}"
+    none = "this pgroup has no command frozen, so the proved check was left out"
+    tool(ADVENTURE, "-o", "frozen.code", given=b"LOOK\n")
+    for command, status, part in (
+        (same, 0, "places are alike; pgroup frozen agrees\n"), ("exit 2", 0, none),
+        (f"{same} | sed s/^read.*/read\\ 6/", 1, "prints of it that the original stands elsewhere"),
+        ("echo refused Z7 >&2; exit 1", 1, "refused, proof: pgroup frozen says of /"),
+        ("echo steps >&2; exit 4", 1, "frozen.code neither waits nor has ended"),
+    ):
+        done = tool(ADVENTURE, "--check", "frozen.code", given=b"LOOK\n",
+                    program=answering(command))
+        must(done[0] == status and part in done[1] + done[2], f"{command}: {done}")
+        before = bytes_of(put(b"old", "new.code"))
+        made = tool(ADVENTURE, "-o", "new.code", given=b"LOOK\n", program=answering(command))
+        is_kept = bytes_of("new.code") == before
+        must(made[0] == status and is_kept == (status == 1), f"{command}: {made}")
+    passed("a file that pgroup frozen refuses, or sees elsewhere, is refused and not written")
+
+
+TESTS = (try_refused_files, try_asked, try_tool, try_files, try_arguments)
