@@ -1,0 +1,3 @@
+pub mod Goes
+pub mod Text
+pub mod Trailer
