@@ -13,7 +13,7 @@ pub record HasTrailer (bytes rows original : List ℕ) (read wrote : ℕ) : Type
   pub whole : bytes ≡ front ++ (rows ++ (original ++ footer))
   pub size : length footer ≡ FOOTER_BYTES
   pub marked : drop 28 footer ≡ codes "PGFROZEN1\n"
-  pub read_is : read ≡ little_number 8 footer
+  pub read_is : read ≡ little_number 8 (drop 0 footer)
   pub wrote_is : wrote ≡ little_number 8 (drop 8 footer)
   pub rows_are : length rows ≡ ROW_BYTES * little_number 4 (drop 20 footer)
   pub original_is : length original ≡ little_number 4 (drop 24 footer)

@@ -131,7 +131,7 @@ fn answer_of(
     steps: u32,
 ) -> Result<Option<String>, FrozenRefusal>
     ensures { IfOk result (λ text. IsAnswer original.now frozen.now input.now steps
-        trailer.read trailer.wrote (text_bytes text)) }
+        trailer.entry.read trailer.entry.wrote (text_bytes text)) }
 {
     // The law says that steps on no input are steps on each input.
     same_run_on_longer_input();

@@ -6,8 +6,13 @@
 //! original comes to that state, it is frozen in the program.
 #![tactic(auto)]
 
+mod answer;
 pub mod laws;
+mod originals;
+mod places;
 mod refusal;
 mod trailer;
+mod walk;
 
+pub use answer::original_text;
 pub use refusal::FrozenRefusal;

@@ -1,5 +1,6 @@
 //! What a frozen code file has behind its segment.
-ghost use Rattle.std.specs.Prelude.{IfOk};
+ghost use Rattle.std.specs.Prelude.{◌≡◌, ◌+◌, ◌≤◌, ◌++◌, IfOk, IsTrue, codes, drop, length};
+ghost use Rattle.byteorder.specs.Endian.{little_number};
 ghost use Rattle.machine_frozen.specs.Trailer.{HasTrailer};
 
 use crate::refusal::FrozenRefusal;
@@ -24,6 +25,45 @@ pub(crate) struct Trailer<'a> {
     pub(crate) wrote: u64,
 }
 
+/// Returns the number of four bytes at `at`, its low byte first.
+fn four_bytes_at(bytes: &[u8], at: usize) -> u32
+    requires { at + 4 ≤ length bytes.now }
+    ensures { result ≡ little_number 4 (drop at bytes.now) }
+{
+    let (_front, rest) = bytes.split_at(at);
+    LittleEndian::read_u32(rest)
+}
+
+/// Returns the number of eight bytes at `at`, its low byte first.
+fn eight_bytes_at(bytes: &[u8], at: usize) -> u64
+    requires { at + 8 ≤ length bytes.now }
+    ensures { result ≡ little_number 8 (drop at bytes.now) }
+{
+    let (_front, rest) = bytes.split_at(at);
+    LittleEndian::read_u64(rest)
+}
+
+/// Returns true only if a footer ends in the mark of frozen files.
+fn is_marked(footer: &[u8]) -> bool
+    requires { 28 ≤ length footer.now }
+    ensures { IsTrue result → drop 28 footer.now ≡ codes "PGFROZEN1\n" }
+{
+    let (_front, mark) = footer.split_at(28);
+    mark == b"PGFROZEN1\n".as_slice()
+}
+
+/// Returns the file's rest and its last bytes, as many as `size`. Fails with `Damaged` if it has
+/// fewer.
+fn cut(bytes: &[u8], size: usize) -> Result<(&[u8], &[u8]), FrozenRefusal>
+    ensures { IfOk result
+        (λ r. (bytes.now ≡ r.0.now ++ r.1.now) × (length r.1.now ≡ size)) }
+{
+    if bytes.len() < size {
+        return Err(FrozenRefusal::Damaged);
+    }
+    Ok(bytes.split_at(bytes.len() - size))
+}
+
 /// Returns what the trailer says. Fails with `NotFrozen` if the file does not end in a footer, and
 /// with `Damaged` if it is too short for the original and the rows.
 pub(crate) fn trailer_of(bytes: &[u8]) -> Result<Trailer<'_>, FrozenRefusal>
@@ -33,24 +73,20 @@ pub(crate) fn trailer_of(bytes: &[u8]) -> Result<Trailer<'_>, FrozenRefusal>
     if bytes.len() < FOOTER_BYTES {
         return Err(FrozenRefusal::NotFrozen);
     }
-    let (body, footer) = bytes.split_at(bytes.len() - FOOTER_BYTES);
-    if &footer[28..] != b"PGFROZEN1\n".as_slice() {
+    let (body, footer) = cut(bytes, FOOTER_BYTES)?;
+    if !is_marked(footer) {
         return Err(FrozenRefusal::NotFrozen);
     }
-    let rows_bytes = ROW_BYTES * LittleEndian::read_u32(&footer[20..]) as usize;
-    let original_bytes = LittleEndian::read_u32(&footer[24..]) as usize;
-    if body.len() < original_bytes {
-        return Err(FrozenRefusal::Damaged);
-    }
-    let (before, original) = body.split_at(body.len() - original_bytes);
-    if before.len() < rows_bytes {
-        return Err(FrozenRefusal::Damaged);
-    }
-    let (_front, rows) = before.split_at(before.len() - rows_bytes);
+    let read = eight_bytes_at(footer, 0);
+    let wrote = eight_bytes_at(footer, 8);
+    let rows_bytes = ROW_BYTES * four_bytes_at(footer, 20) as usize;
+    let original_bytes = four_bytes_at(footer, 24) as usize;
+    let (before, original) = cut(body, original_bytes)?;
+    let (_front, rows) = cut(before, rows_bytes)?;
     Ok(Trailer {
         rows,
         original,
-        read: LittleEndian::read_u64(footer),
-        wrote: LittleEndian::read_u64(&footer[8..]),
+        read,
+        wrote,
     })
 }

@@ -1,7 +1,5 @@
 //! The places that a frozen program can come to from where it waits, and what they are of its
 //! original. No contract says which pairs these are: they are checked.
-ghost use Rattle.std.specs.Prelude.{◌≡◌};
-
 use crate::places::{Place, place_by, word_at};
 use pcode_file::Proc;
 use pcode_frozen::Pair;
@@ -96,39 +94,43 @@ fn find_cases(
     })
 }
 
-/// Finds the places to which an instruction of a procedure leads that ends at `next`.
+/// Finds the target of a jump.
+fn find_target(
+    program: &Program,
+    walk: &mut Walk,
+    after: Place,
+    sb: i8,
+) -> Result<(), AllocError> {
+    walk.find(Place {
+        offset: target_of(program, after.procedure, sb, after.offset),
+        ..after
+    })
+}
+
+/// Finds the places to which an instruction leads that ends at `after`.
 fn find_onward(
     program: &Program,
     walk: &mut Walk,
-    procedure: u8,
     instr: Instr,
-    next: u32,
+    after: Place,
 ) -> Result<(), AllocError> {
-    let after = Place {
-        procedure,
-        offset: next,
-    };
     match instr {
-        Instr::Ujp(sb) => walk.find(Place {
-            procedure,
-            offset: target_of(program, procedure, sb, next),
-        }),
-        Instr::Fjp(sb) | Instr::Efj(sb) | Instr::Nfj(sb) => {
-            walk.find(after)?;
-            walk.find(Place {
-                procedure,
-                offset: target_of(program, procedure, sb, next),
-            })
-        }
-        Instr::Clp(callee) | Instr::Cgp(callee) | Instr::Cip(callee) => {
-            walk.find(after)?;
-            find_callee(program, walk, callee)
-        }
+        Instr::Ujp(sb) => return find_target(program, walk, after, sb),
         Instr::Xjp {
             low, high, table, ..
-        } => find_cases(program, walk, procedure, low, high, table),
-        Instr::Rnp(_) | Instr::Rbp(_) => Ok(()),
-        _ => walk.find(after),
+        } => return find_cases(program, walk, after.procedure, low, high, table),
+        Instr::Rnp(_) => return Ok(()),
+        Instr::Rbp(_) => return Ok(()),
+        _ => walk.find(after)?,
+    }
+    match instr {
+        Instr::Fjp(sb) => find_target(program, walk, after, sb),
+        Instr::Efj(sb) => find_target(program, walk, after, sb),
+        Instr::Nfj(sb) => find_target(program, walk, after, sb),
+        Instr::Clp(callee) => find_callee(program, walk, callee),
+        Instr::Cgp(callee) => find_callee(program, walk, callee),
+        Instr::Cip(callee) => find_callee(program, walk, callee),
+        _ => Ok(()),
     }
 }
 
@@ -171,7 +173,11 @@ fn look_on(program: &Program, walk: &mut Walk) -> Result<(), AllocError> {
         };
         if program.is_start(place.offset) {
             let (instr, next) = program.instruction(place.offset);
-            find_onward(program, walk, place.procedure, instr, next)?;
+            let after = Place {
+                offset: next,
+                ..place
+            };
+            find_onward(program, walk, instr, after)?;
         }
     }
     Ok(())
