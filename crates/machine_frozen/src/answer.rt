@@ -4,7 +4,7 @@ ghost use Rattle.pcode_frozen.specs.Originals.{begun_at, original_of};
 ghost use Rattle.pcode_frozen.specs.States.{AreTwins};
 ghost use Rattle.pcode_frozen.specs.Twins.{listed, AreTwinPrograms};
 ghost use Rattle.machine_state.specs.Command.{text_bytes};
-ghost use Rattle.machine_frozen.specs.Text.{IsAnswer, IsOriginalText};
+ghost use Rattle.machine_frozen.specs.Text.{IsAnswer, IsOriginalText, IsProgramOf};
 ghost use Rattle.machine_frozen.specs.Wakes.{HasWoken, IsCounted};
 
 use crate::originals::{begun_by, frames_by, next_by};
@@ -154,6 +154,26 @@ fn answer_of(
     }
 }
 
+/// Returns the program of the original's bytes. Fails with `Original` if it is refused.
+fn load_original(alloc: Global, bytes: &[u8]) -> Result<Program, FrozenRefusal>
+    ensures { IfOk result (IsProgramOf bytes.now) }
+{
+    match load(alloc, bytes) {
+        Ok(program) => Ok(program),
+        Err(refusal) => Err(FrozenRefusal::Original(refusal)),
+    }
+}
+
+/// Returns the program of a frozen file's bytes. Fails with `Machine` if it is refused.
+fn load_frozen(alloc: Global, bytes: &[u8]) -> Result<Program, FrozenRefusal>
+    ensures { IfOk result (IsProgramOf bytes.now) }
+{
+    match load(alloc, bytes) {
+        Ok(program) => Ok(program),
+        Err(refusal) => Err(FrozenRefusal::Machine(refusal)),
+    }
+}
+
 /// Returns the text of the configuration of the original where the program of a frozen code file
 /// waits on the whole `input`. What it has read and written is counted from the original's start.
 /// Returns `None` if all `steps` steps were made before the program waits.
@@ -170,7 +190,8 @@ pub fn original_text(
     ensures { IfOk result (λ text. IsOriginalText bytes.now input.now steps (text_bytes text)) }
 {
     let trailer = trailer_of(bytes)?;
-    let original = load(alloc, trailer.original).map_err(FrozenRefusal::Original)?;
-    let frozen = load(alloc, bytes).map_err(FrozenRefusal::Machine)?;
-    answer_of(alloc, &original, &frozen, trailer, input, steps)
+    let original = load_original(alloc, trailer.original)?;
+    let frozen = load_frozen(alloc, bytes)?;
+    let text = answer_of(alloc, &original, &frozen, trailer, input, steps)?;
+    Ok(text)
 }
