@@ -1,5 +1,5 @@
 -- A program waits on no input in one configuration.
-use Rattle.std.proofs.Common.{◌≡◌, ◌∙◌, ℕ, zero, suc, ◌+◌, List, [], ◌++◌, length, None, refl, sym, ap, append-nil, arith}
+use Rattle.std.proofs.Common.{◌≡◌, ◌∙◌, ℕ, zero, suc, ◌+◌, List, [], length, None, refl, sym, ap, append-nil, arith}
 use Rattle.pcode_file.specs.Parts.{Parts}
 use Rattle.pcode_machine.specs.Configuration.{State, Configuration}
 use Rattle.pcode_machine.specs.Transition.{Waiting, transition}

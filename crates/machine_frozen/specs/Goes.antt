@@ -1,11 +1,9 @@
 -- A frozen program that goes on as its original does.
 use Rattle.std.specs.Prelude.{◌≡◌, ℕ, List, [], None}
 use Rattle.pcode_file.specs.Parts.{Parts}
-use Rattle.pcode_frames.specs.declared.frame.Frame.{Frame}
 use Rattle.pcode_machine.specs.Configuration.{State, Configuration}
 use Rattle.machine_state.specs.Halt.{HaltsIn}
 use Rattle.pcode_frozen.specs.declared.pairs.Pair.{Pair}
-use Rattle.pcode_frozen.specs.Originals.{original_of}
 use Rattle.pcode_frozen.specs.States.{AreTwins}
 use Rattle.pcode_frozen.specs.Twins.{listed, AreTwinPrograms}
 

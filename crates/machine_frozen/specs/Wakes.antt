@@ -1,5 +1,5 @@
 -- What the stages of the command answer.
-use Rattle.std.specs.Prelude.{◌≡◌, ℕ, ◌+◌, List, [], Bool, true, false, None}
+use Rattle.std.specs.Prelude.{◌≡◌, ℕ, ◌+◌, [], Bool, true, false, None}
 use Rattle.pcode_file.specs.Parts.{Parts}
 use Rattle.machine_state.specs.Halt.{IsSpent}
 use Rattle.machine_state.specs.declared.halt.Halt.{Halt}

@@ -75,7 +75,14 @@ fn original_at(
     };
     let next = next_by(rows, machine);
     let at = begun_by(rows, machine);
-    if !are_twin_states(frozen, pairs.as_slice(), machine, frames.as_slice(), next, at) {
+    if !are_twin_states(
+        frozen,
+        pairs.as_slice(),
+        machine,
+        frames.as_slice(),
+        next,
+        at,
+    ) {
         return Err(FrozenRefusal::State);
     }
     if !are_twins(original, frozen, pairs.as_slice()) {

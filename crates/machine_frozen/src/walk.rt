@@ -95,12 +95,7 @@ fn find_cases(
 }
 
 /// Finds the target of a jump.
-fn find_target(
-    program: &Program,
-    walk: &mut Walk,
-    after: Place,
-    sb: i8,
-) -> Result<(), AllocError> {
+fn find_target(program: &Program, walk: &mut Walk, after: Place, sb: i8) -> Result<(), AllocError> {
     walk.find(Place {
         offset: target_of(program, after.procedure, sb, after.offset),
         ..after
@@ -117,7 +112,10 @@ fn find_onward(
     match instr {
         Instr::Ujp(sb) => return find_target(program, walk, after, sb),
         Instr::Xjp {
-            low, high, table, ..
+            low,
+            high,
+            table,
+            ..
         } => return find_cases(program, walk, after.procedure, low, high, table),
         Instr::Rnp(_) => return Ok(()),
         Instr::Rbp(_) => return Ok(()),

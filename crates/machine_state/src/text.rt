@@ -179,6 +179,18 @@ fn push_placed_state(
     push_memory(text, machine.memory())
 }
 
+/// Appends the lines before those of a state: how the program halted there.
+fn push_halt(text: &mut String, halt: Halt) -> Result<(), AllocError>
+    ensures { OnOk result (string_bytes text.new ≡ string_bytes text.old
+        ++ (codes "state 1\n" ++ end_line halt.end ++ line (codes "read") (halt.read ∷ [])
+        ++ line (codes "wrote") (halt.wrote ∷ []))) }
+{
+    text.push_str("state 1\n")?;
+    push_end(text, halt.end)?;
+    push_line(text, "read", halt.read)?;
+    push_line(text, "wrote", halt.wrote)
+}
+
 /// Returns the text of a machine's state, and of how its program halted there. Fails if memory runs
 /// out.
 pub fn state_text(alloc: Global, machine: &Machine<'_>, halt: Halt) -> Result<String, AllocError>
@@ -186,10 +198,7 @@ pub fn state_text(alloc: Global, machine: &Machine<'_>, halt: Halt) -> Result<St
         ≡ state_text halt.end halt.read halt.wrote machine.now.state) }
 {
     let mut text = String::new(alloc);
-    text.push_str("state 1\n")?;
-    push_end(&mut text, halt.end)?;
-    push_line(&mut text, "read", halt.read)?;
-    push_line(&mut text, "wrote", halt.wrote)?;
+    push_halt(&mut text, halt)?;
     push_state(&mut text, machine)?;
     Ok(text)
 }
@@ -208,10 +217,7 @@ pub fn placed_state_text(
         (placed frames.now next transfer machine.now.state)) }
 {
     let mut text = String::new(alloc);
-    text.push_str("state 1\n")?;
-    push_end(&mut text, halt.end)?;
-    push_line(&mut text, "read", halt.read)?;
-    push_line(&mut text, "wrote", halt.wrote)?;
+    push_halt(&mut text, halt)?;
     push_placed_state(&mut text, machine, frames, next, transfer)?;
     Ok(text)
 }

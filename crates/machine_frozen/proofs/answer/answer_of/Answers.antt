@@ -1,4 +1,4 @@
-use Rattle.std.proofs.Common.{◌≡◌, ℕ, List, [], Bool, true, false}
+use Rattle.std.proofs.Common.{◌≡◌, ℕ, [], Bool, true, false}
 use Rattle.pcode_file.specs.Parts.{Parts}
 use Rattle.machine_state.specs.Halt.{IsSpent}
 use Rattle.machine_frozen.specs.Wakes.{HasWoken}
