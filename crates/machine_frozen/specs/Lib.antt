@@ -1,0 +1,4 @@
+pub mod Goes
+pub mod Text
+pub mod Trailer
+pub mod Wakes
