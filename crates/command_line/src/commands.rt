@@ -4,6 +4,7 @@ use crate::datagram::show;
 use crate::environment::{if_said, is_log_asked, trace_asked};
 use command_words::{Asked, NodeWords};
 use group_sim::{ScriptRefusal, sim_file};
+use machine_frozen::write_frozen;
 use machine_run::{Counting, MachineRefusal, RunIo, check_file, list_file, run_file};
 use machine_state::write_state;
 use net_run::{NetPlan, net_file};
@@ -122,6 +123,9 @@ pub fn perform<
         Asked::Run { file, steps } => run(rt, file, steps, reader, writer),
         Asked::State { file, steps } => {
             Conclusion::of_state(write_state(rt, file, steps, reader, writer))
+        }
+        Asked::Frozen { file, steps } => {
+            Conclusion::of_state(write_frozen(rt, file, steps, reader, writer))
         }
         Asked::Show {
             size,

@@ -16,6 +16,16 @@ use Rattle.machine_frozen.specs.Trailer.{HasTrailer}
 abbrev pub IsProgramOf : List ℕ → Parts → Type 0
 IsProgramOf bytes p = InFile bytes p × IsLoadable p
 
+-- A frozen code file with the program `q`, whose original is the program `p`.
+-- The original had read `read` bytes and written `wrote` when it was frozen.
+-- Forbids: another original than the file's, and other numbers than its trailer's.
+pub record IsFrozenFile (bytes : List ℕ) (p q : Parts) (read wrote : ℕ) : Type 0 where
+  pub rows : List ℕ
+  pub file : List ℕ
+  pub trailer : HasTrailer bytes rows file read wrote
+  pub original : IsProgramOf file p
+  pub frozen : IsProgramOf bytes q
+
 -- The text of the configuration of `p` that goes with the one in which `q` waits on `input`.
 -- `p` had read `read` bytes and written `wrote` before `q` began.
 pub record IsTextAfter (p q : Parts) (input : List ℕ) (steps read wrote : ℕ) (text : List ℕ)
@@ -35,16 +45,11 @@ abbrev pub IsAnswer : Parts → Parts → List ℕ → ℕ → ℕ → ℕ → O
 IsAnswer p q input steps read wrote None = IsSpent q input steps
 IsAnswer p q input steps read wrote (Some text) = IsTextAfter p q input steps read wrote text
 
--- The same for a frozen code file: its original is what its trailer has.
--- Forbids: another original than the file's, and other numbers than the trailer's.
+-- The same for a frozen code file.
 pub record IsOriginalText (bytes input : List ℕ) (steps : ℕ) (text : Option (List ℕ)) : Type 0 where
-  pub rows : List ℕ
-  pub file : List ℕ
-  pub read : ℕ
-  pub wrote : ℕ
-  pub trailer : HasTrailer bytes rows file read wrote
   pub p : Parts
   pub q : Parts
-  pub original : IsProgramOf file p
-  pub frozen : IsProgramOf bytes q
+  pub read : ℕ
+  pub wrote : ℕ
+  pub file : IsFrozenFile bytes p q read wrote
   pub answer : IsAnswer p q input steps read wrote text

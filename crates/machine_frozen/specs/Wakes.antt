@@ -11,7 +11,7 @@ HasWoken q steps true = WakesIn q steps
 HasWoken q steps false = IsSpent q [] steps
 
 -- A halt by waiting, and the same one counted from the start of the original on.
-pub record IsCounted (halt : Halt) (read wrote : ℕ) (whole : Halt) : Type 0 where
+pub record IsCountedFrom (halt : Halt) (read wrote : ℕ) (whole : Halt) : Type 0 where
   pub waits : halt.end ≡ None
   pub end : whole.end ≡ None
   pub read_is : whole.read ≡ read + halt.read

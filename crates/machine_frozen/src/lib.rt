@@ -7,6 +7,7 @@
 #![tactic(auto)]
 
 mod answer;
+mod command;
 pub mod laws;
 mod originals;
 mod places;
@@ -15,4 +16,5 @@ mod trailer;
 mod walk;
 
 pub use answer::original_text;
+pub use command::{write_frozen, write_original};
 pub use refusal::FrozenRefusal;

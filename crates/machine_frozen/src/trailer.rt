@@ -1,6 +1,8 @@
 //! What a frozen code file has behind its segment.
-ghost use Rattle.std.specs.Prelude.{◌≡◌, ◌+◌, ◌≤◌, ◌++◌, IfOk, IsTrue, codes, drop, length};
+ghost use Rattle.std.specs.Prelude.{◌≡◌, ◌+◌, ◌<◌, ◌≤◌, ◌↔◌, ◌++◌, IfErr, IfOk, IsTrue, codes, drop, length};
 ghost use Rattle.byteorder.specs.Endian.{little_number};
+ghost use Rattle.machine_frozen.specs.declared.refusal.FrozenRefusal.TheVariants as refusal;
+ghost use Rattle.machine_frozen.specs.Refusals.{IsBytesRefusal};
 ghost use Rattle.machine_frozen.specs.Trailer.{HasTrailer};
 
 use crate::refusal::FrozenRefusal;
@@ -43,10 +45,10 @@ fn eight_bytes_at(bytes: &[u8], at: usize) -> u64
     LittleEndian::read_u64(rest)
 }
 
-/// Returns true only if a footer ends in the mark of frozen files.
+/// Returns true exactly if a footer ends in the mark of frozen files.
 fn is_marked(footer: &[u8]) -> bool
     requires { 28 ≤ length footer.now }
-    ensures { IsTrue result → drop 28 footer.now ≡ codes "PGFROZEN1\n" }
+    ensures { IsTrue result ↔ (drop 28 footer.now ≡ codes "PGFROZEN1\n") }
 {
     let (_front, mark) = footer.split_at(28);
     mark == b"PGFROZEN1\n".as_slice()
@@ -55,8 +57,9 @@ fn is_marked(footer: &[u8]) -> bool
 /// Returns the file's rest and its last bytes, as many as `size`. Fails with `Damaged` if it has
 /// fewer.
 fn cut(bytes: &[u8], size: usize) -> Result<(&[u8], &[u8]), FrozenRefusal>
-    ensures { IfOk result
+    ensures ok { IfOk result
         (λ r. (bytes.now ≡ r.0.now ++ r.1.now) × (length r.1.now ≡ size)) }
+    ensures err { IfErr result (λ e. (e ≡ refusal.Damaged) × (length bytes.now < size)) }
 {
     if bytes.len() < size {
         return Err(FrozenRefusal::Damaged);
@@ -67,8 +70,9 @@ fn cut(bytes: &[u8], size: usize) -> Result<(&[u8], &[u8]), FrozenRefusal>
 /// Returns what the trailer says. Fails with `NotFrozen` if the file does not end in a footer, and
 /// with `Damaged` if it is too short for the original and the rows.
 pub(crate) fn trailer_of(bytes: &[u8]) -> Result<Trailer<'_>, FrozenRefusal>
-    ensures { IfOk result
+    ensures ok { IfOk result
         (λ t. HasTrailer bytes.now t.rows.now t.original.now t.read t.wrote) }
+    ensures err { IfErr result (IsBytesRefusal bytes.now) }
 {
     if bytes.len() < FOOTER_BYTES {
         return Err(FrozenRefusal::NotFrozen);

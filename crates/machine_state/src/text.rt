@@ -1,6 +1,6 @@
 //! The text of a configuration.
 ghost use Rattle.std.specs.Prelude.{◌≡◌, [], ◌∷◌, ◌++◌, flat_map, IfOk, OnOk, string_bytes, codes};
-ghost use Rattle.machine_state.specs.Text.{end_line, ended_line, frame_line, line, placed, spaced, state_lines, state_text, transfer_line};
+ghost use Rattle.machine_state.specs.Text.{end_line, ended_line, frame_line, line, state_with, spaced, state_lines, state_text, transfer_line};
 
 use crate::halt::Halt;
 use pcode_frames::{Frame, Frames, Memory, Stack};
@@ -169,7 +169,7 @@ fn push_placed_state(
 ) -> Result<(), AllocError>
     ensures { OnOk result (string_bytes text.new
         ≡ string_bytes text.old
-        ++ state_lines (placed frames.now next transfer machine.now.state)) }
+        ++ state_lines (state_with frames.now next transfer machine.now.state)) }
 {
     push_line(text, "ioresult", u64::from(machine.io_result()))?;
     push_line(text, "next", u64::from(next))?;
@@ -214,7 +214,7 @@ pub fn placed_state_text(
     halt: Halt,
 ) -> Result<String, AllocError>
     ensures { IfOk result (λ text. string_bytes text ≡ state_text halt.end halt.read halt.wrote
-        (placed frames.now next transfer machine.now.state)) }
+        (state_with frames.now next transfer machine.now.state)) }
 {
     let mut text = String::new(alloc);
     push_halt(&mut text, halt)?;

@@ -9,9 +9,9 @@ not_woken : (q : Parts) (steps : ℕ) (woken : Bool) → HasWoken q steps woken 
 not_woken q steps true h is = absurd cc
 not_woken q steps false h is = h
 
-pub returns-then-not-branch : goal.returns-then-not-branch
-returns-then-not-branch c =
-    let spent = not_woken _ _ _ c.in_ok-wake.ensures c.if-not-branch.true in
+pub returns-then-not-branch-clause-ok : goal.returns-then-not-branch-clause-ok
+returns-then-not-branch-clause-ok c =
+    let spent = not_woken _ _ _ c.in_ok-wake.ensures.ok c.if-not-branch.true in
     record {
       last = spent.last;
       made = c.same_run_on_longer_input.ensures c.args.frozen.now [] c.args.input.now c.args.steps spent.last spent.made;
