@@ -7,13 +7,15 @@
 //! - `reason_of(group, datagram)` returns why a node drops a datagram.
 //!
 //! A `Note` is one thing that a node says, and `line_of` returns its line. A `Traced` is what a
-//! line of a trace says, and `traced_line` returns that line.
+//! line of a trace says, and `traced_line` returns that line. `Recent` has the datagrams that the
+//! trace need not write again.
 #![tactic(auto)]
 
 mod drops;
 mod milestones;
 mod node_log;
 mod note;
+mod recent;
 mod role;
 mod sends;
 mod traced;
@@ -22,6 +24,7 @@ pub use drops::{DropReason, Drops, MOST_COUNTED, reason_of};
 pub use milestones::{end_to_note, marks_reached};
 pub use node_log::{Log, millis_now};
 pub use note::{Note, ProcessEnd, line_of};
+pub use recent::{MOST_RECENT, Recent};
 pub use role::Role;
 pub use sends::Sends;
 pub use traced::{Call, Traced, traced_line};
