@@ -1,7 +1,7 @@
 //! What a node on UDP says of itself, in lines for a person and for `grep`. It stands apart from
 //! `group_udp` for check time only.
 //!
-//! - `Log::new(alloc, clock, errors, node, is_on)` makes the log of a node; if it is not on, its
+//! - `Log::new(alloc, clock, errors, node, level)` makes the log of a node; if it is off, its
 //!   calls do nothing;
 //! - `log.look(node)`, after each call of the node, writes a note for each change of its ballot;
 //! - `reason_of(group, datagram)` returns why a node drops a datagram.
@@ -22,7 +22,7 @@ mod traced;
 
 pub use drops::{DropReason, Drops, MOST_COUNTED, reason_of};
 pub use milestones::{end_to_note, marks_reached};
-pub use node_log::{Log, millis_now};
+pub use node_log::{Log, LogLevel, millis_now};
 pub use note::{Note, ProcessEnd, line_of};
 pub use recent::{MOST_RECENT, Recent};
 pub use role::Role;
