@@ -5,6 +5,7 @@ mod DiskClaims
 mod TakenBack
 mod SeenSame
 mod DiskFronts
+mod DiskMoments
 mod DiskRuns
 mod RunsWrite
 mod CallsInTurn
