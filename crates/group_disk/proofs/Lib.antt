@@ -10,3 +10,4 @@ mod DiskRuns
 mod RunsWrite
 mod CallsInTurn
 mod DiskNetworks
+mod TornFiles
