@@ -1,13 +1,19 @@
 -- What is no part of a cycle: a keyboard that is passed over, and output that is left.
-use Rattle.std.proofs.Common.{◌≡◌, ◌+◌, ◌-◌, ◌<◌, ◌∙◌, ℕ, List, [], ◌∷◌, ◌++◌, Ok, drop, length, refl, sym, ap, arith}
+use Rattle.std.proofs.Common.{◌≡◌, ◌+◌, ◌-◌, ◌^◌, ◌<◌, ◌∙◌, ℕ, List, [], ◌∷◌, ◌++◌, Ok, drop, length, refl, sym, ap, subst, arith}
 use Rattle.std.proofs.lemmas.List.{length-append, length-drop}
 use Rattle.paxos_acceptor.specs.Stores.{StoreKind}
 use Rattle.group_protocol.specs.declared.limits.TheConstants.{MOST_WAITING}
+use Rattle.group_node.specs.declared.player.Ran.{Ran}
+use Rattle.group_node.specs.declared.player.Ran.TheVariants.{More}
+use Rattle.group_node.specs.Output.{IsOver, RunsOn, most_of}
 use Rattle.group_node.specs.NodeCalls.{running, unreleased_by}
+use Rattle.group_node.specs.States.{input}
+use Rattle.group_wire.specs.declared.answers.Turned.{Turned}
+use Rattle.group_wire.specs.declared.limits.TheConstants.{TURN_STEPS}
 use Rattle.group_udp.specs.Prompts.{GivesWhatCame, KeyboardState, Remaining, no_keys, with_more}
 use Rattle.node_run.specs.declared.answering.Answered.{Answered}
 use Rattle.node_run.specs.Answering.{left_once_answered, room_of}
-use Rattle.node_run.specs.Cycles.{AnswersKeyboard, ReleasesOutput, RunMoment}
+use Rattle.node_run.specs.Cycles.{AnswersKeyboard, ReleasesOutput, RunMoment, TakesTurn}
 use Rattle.node_run.specs.Wrong.{closed_with}
 use Rattle.node_run.proofs.Going.{looked, with_none}
 
@@ -40,6 +46,15 @@ module _ {S : Type 0} (kind : StoreKind S) where
   request_left answer a b bytes requests some is same h =
       let left = left_same answer a b bytes requests is same h in
       grind (arith, some, ap (λ (l : Remaining). l.requests) left)
+
+  pub no_steps : (turned : Turned) (a b : RunMoment S) → turned.ran ≡ More → a.node.progress.steps + 1 < 2 ^ 64
+      → b.node.progress ≡ a.node.progress → ¬ TakesTurn kind turned a b
+  no_steps turned a b more spare same h =
+      let x : List ℕ = input b.node.protocol.known in
+      let runs : RunsOn x TURN_STEPS a.node.progress b.node.progress turned.ran = h.did.runs in
+      let over : b.node.progress.steps ≡ most_of a.node.progress.steps TURN_STEPS =
+      subst (λ (r : Ran). IsOver x (most_of a.node.progress.steps TURN_STEPS) b.node.progress r) more runs.over in
+      absurd (omega (arith, over, ap (λ q. q.steps) same, spare))
 
   pub output_left : (seen : ℕ) (a b : RunMoment S) (byte : ℕ) (bytes : List ℕ) → unreleased_by (running a.node) ≡ byte ∷ bytes
       → b.node.progress ≡ a.node.progress → ¬ ReleasesOutput seen a b (Ok tt)
