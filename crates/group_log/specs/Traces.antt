@@ -81,6 +81,7 @@ IsTraceLineFor old millis traced None line new =
 IsTraceLineFor old millis traced (Some bytes) line new =
     (back : Option ℕ) × IsNoted old bytes back new × (line ≡ traced_line millis traced back)
 
+-- The line for what a trace says after these datagrams, and the last ones then.
 abbrev pub IsTraceLine : List (List ℕ) → ℕ → Traced → List ℕ → List (List ℕ) → Type 0
 IsTraceLine old millis traced line new =
     IsTraceLineFor old millis traced (datagram_traced traced) line new

@@ -38,8 +38,8 @@ pub fn millis_now<H: Clock>(clock: &H) -> u64 {
     }
 }
 
-/// The log of one node. If it is not off, it writes notes to `errors`, a line each. A line that cannot
-/// be made or written is left out.
+/// The log of one node. If it is not off, it writes notes to `errors`, a line each. A line that
+/// cannot be made or written is left out.
 #[derive(Drop)]
 pub struct Log<'a, H, E> {
     alloc: Global,
