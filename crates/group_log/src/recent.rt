@@ -69,9 +69,9 @@ impl Recent {
         None
     }
 
-    /// Notes a datagram that is about to be written. Returns how many datagrams back it was written
-    /// whole: 1 for the last one. If it was not, returns `None`, and it is the last one from now on.
-    /// Fails, and notes nothing, if memory runs out.
+    /// Notes a datagram that is about to be written. Returns how many datagrams back it was
+    /// written whole: 1 for the last one. If it was not, returns `None`, and it is the last one
+    /// from now on. Fails, and notes nothing, if memory runs out.
     pub fn note(&mut self, datagram: &[u8]) -> Result<Option<usize>, AllocError>
         ensures ok { IfOk result (λ back. IsNoted self.old datagram.now back self.new) }
         ensures err { IfErr result (λ _. self.new ≡ self.old) }
