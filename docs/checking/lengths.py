@@ -3,11 +3,11 @@ from . import tree
 from .tree import fault, text_of
 
 # How many lines README may have, and how many words PROMISES.
-LINES_OF_README, WORDS_OF_PROMISES = 129, 2900
+LINES_OF_README, WORDS_OF_PROMISES = 129, 3000
 # How many words README and docs may have without what sources make. It was 80,568 for the pages of
 # 0.11.0, so a page that gets longer lets another one get shorter. Who adds a page that is needed
 # raises it, and says in the commit why.
-MOST = 84800
+MOST = 87800
 # What sources make, wholly or but for a few lines.
 MADE = ("docs/DEFINITIONS.md", "docs/reference/")
 

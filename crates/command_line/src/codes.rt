@@ -35,6 +35,14 @@ pub const CODES: &str = "The code after `refused`, and what it says:
   E1      memory ran out
   E2      standard input cannot be read, or is too long
   E3      standard output is closed, or takes nothing more
+  Z1      the file is not frozen: tools/freeze makes such files
+  Z2      the file is frozen, and a part of it is missing
+  Z3      the original in the file is refused: a second code says why
+  Z4      the file is damaged: its program does not wait at first, or writes
+  Z5      the program ends on this input
+  Z6      the file is damaged: it does not stand where its original stood
+  Z7      the file is damaged: it does not go on as its original does
+  Z8      more bytes were read or written than can be counted
   G1      the datagram is cut off
   G2      the datagram does not begin with PG
   G3      the datagram is of another version

@@ -1,9 +1,11 @@
 //! The work of the commands. Each is done by the crate that has it, and ends in a `Conclusion`.
 use crate::conclusion::{Conclusion, Refusal};
 use crate::datagram::show;
-use crate::environment::{if_said, is_log_asked, trace_asked};
+use crate::environment::{if_said, is_log_asked, level_asked, trace_asked};
 use command_words::{Asked, NodeWords};
+use group_log::LogLevel;
 use group_sim::{ScriptRefusal, sim_file};
+use machine_frozen::write_frozen;
 use machine_run::{Counting, MachineRefusal, RunIo, check_file, list_file, run_file};
 use machine_state::write_state;
 use net_run::{NetPlan, net_file};
@@ -77,7 +79,7 @@ fn run_plan<
 
 /// Returns the plan of the words of `node`, with the log and the trace that the environment asks
 /// for.
-fn plan_of<'a>(words: &'a NodeWords<'a>, trace: Option<&'a str>, is_logged: bool) -> NodePlan<'a> {
+fn plan_of<'a>(words: &'a NodeWords<'a>, trace: Option<&'a str>, log: LogLevel) -> NodePlan<'a> {
     NodePlan {
         node: words.node,
         group: Group {
@@ -93,7 +95,7 @@ fn plan_of<'a>(words: &'a NodeWords<'a>, trace: Option<&'a str>, is_logged: bool
         },
         keys: words.keys,
         trace,
-        is_logged,
+        log,
     }
 }
 
@@ -105,7 +107,7 @@ fn node<
     E: Write,
 >(rt: &H, words: &NodeWords<'_>, reader: &mut R, writer: &mut W, errors: &mut E) -> Conclusion {
     let asked = trace_asked(rt);
-    let plan = plan_of(words, if_said(asked.as_str()), is_log_asked(rt));
+    let plan = plan_of(words, if_said(asked.as_str()), level_asked(rt));
     run_plan(rt, words.file, &plan, reader, writer, errors)
 }
 
@@ -122,6 +124,9 @@ pub fn perform<
         Asked::Run { file, steps } => run(rt, file, steps, reader, writer),
         Asked::State { file, steps } => {
             Conclusion::of_state(write_state(rt, file, steps, reader, writer))
+        }
+        Asked::Frozen { file, steps } => {
+            Conclusion::of_state(write_frozen(rt, file, steps, reader, writer))
         }
         Asked::Show {
             size,

@@ -2,6 +2,7 @@
 use crate::datagram::ShowFault;
 use group_sim::{LineFault, ScriptRefusal};
 use group_udp::GroupFault;
+use machine_frozen::FrozenRefusal;
 use machine_run::{Finish, MachineRefusal};
 use machine_state::Stated;
 use paxos_msg::WireFault;
@@ -29,6 +30,8 @@ const STEPS_SPENT: u8 = 4;
 pub enum Refusal {
     #[error(transparent)]
     Machine(#[from] MachineRefusal),
+    #[error(transparent)]
+    Frozen(#[from] FrozenRefusal),
     #[error(transparent)]
     Group(#[from] GroupFault),
     /// The bytes of a datagram are none of the group.
@@ -77,12 +80,12 @@ impl Conclusion {
         }
     }
 
-    /// Returns the conclusion of `state`.
-    pub fn of_state(stated: Result<Stated, MachineRefusal>) -> Conclusion {
+    /// Returns the conclusion of `state` and of `frozen`.
+    pub fn of_state<F: Into<Refusal>>(stated: Result<Stated, F>) -> Conclusion {
         match stated {
             Ok(Stated::Written) => Conclusion::Done,
             Ok(Stated::Spent) => Conclusion::Ran(Finish::Steps),
-            Err(refusal) => Conclusion::Refused(Refusal::Machine(refusal)),
+            Err(refusal) => Conclusion::Refused(refusal.into()),
         }
     }
 
@@ -116,7 +119,7 @@ pub fn conclude<E: Write>(errors: &mut E, conclusion: Conclusion) -> u8 {
 pub fn refuse<E: Write>(errors: &mut E, refusal: Refusal) -> u8 {
     let _ = match refusal {
         Refusal::Line { line, fault } => writeln!(errors, "line {line} refused {fault}"),
-        Refusal::Machine(_) | Refusal::Group(_) | Refusal::Datagram(_) => {
+        Refusal::Machine(_) | Refusal::Frozen(_) | Refusal::Group(_) | Refusal::Datagram(_) => {
             writeln!(errors, "refused {refusal}")
         }
     };

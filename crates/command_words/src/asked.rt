@@ -20,6 +20,11 @@ pub enum Asked<'a> {
         file: &'a str,
         steps: u32,
     },
+    /// `steps` is how many steps the frozen program has at most.
+    Frozen {
+        file: &'a str,
+        steps: u32,
+    },
     /// The group of the datagram, and its bytes in digits, which are not looked at.
     Show {
         size: u8,

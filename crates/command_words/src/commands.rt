@@ -1,5 +1,6 @@
 //! The commands. Each is a module with its words and its help.
 mod check;
+mod frozen;
 mod list;
 mod net;
 mod node;
@@ -33,6 +34,7 @@ pub enum Name {
     List,
     Run,
     State,
+    Frozen,
     Show,
     Sim,
     Net,
@@ -40,11 +42,12 @@ pub enum Name {
 }
 
 /// All commands, in the order of help.
-static ALL: [Name; 8] = [
+static ALL: [Name; 9] = [
     Name::Check,
     Name::List,
     Name::Run,
     Name::State,
+    Name::Frozen,
     Name::Show,
     Name::Sim,
     Name::Net,
@@ -59,6 +62,7 @@ macro_rules! in_module {
             Name::List => list::$($item)*,
             Name::Run => run::$($item)*,
             Name::State => state::$($item)*,
+            Name::Frozen => frozen::$($item)*,
             Name::Show => show::$($item)*,
             Name::Sim => sim::$($item)*,
             Name::Net => net::$($item)*,
@@ -99,6 +103,7 @@ impl Name {
             Name::List => list::read(matches),
             Name::Run => run::read(matches),
             Name::State => state::read(matches),
+            Name::Frozen => frozen::read(matches),
             Name::Show => show::read(matches),
             Name::Sim => sim::read(matches),
             Name::Net => net::read(matches),

@@ -15,9 +15,9 @@ use Rattle.group_protocol.specs.States.{IsSize}
 use Rattle.group_world.specs.Group.{member_at, new_world, world_state}
 use Rattle.group_world.specs.Member.{Member}
 use Rattle.group_world.specs.Processes.{Entry, sent_in, typed_in}
-use Rattle.group_process.specs.Runs.{AlwaysLaterOfRuns, AlwaysOfNodes, AlwaysOfRuns, Attempt, ConsolesAreReleased, ConsolesShowRuns, FailsToStart, GoesOn, HasRuns, IsAfterRuns, IsGroupLog, IsLastIfOn, IsOver, LeaveNodes, NodeRun, Stand, Starts, node_after, node_by, run_output, state_after}
+use Rattle.group_process.specs.Runs.{AlwaysOfNodes, AlwaysOfRuns, Attempt, ConsolesAreReleased, ConsolesShowRuns, FailsToStart, GoesOn, IsGroupLog, IsLastIfOn, IsOver, LeaveNodes, NodeRun, Stand, Starts, node_after, node_by, run_output, state_after}
 use Rattle.group_disk.specs.Restarts.{AreChosenRuns, AreRestarts, HasKeptLog, IsChosenLog, IsDiskLog, IsSameStand, found_after}
-use Rattle.group_disk.specs.Headline.{AlwaysLaterOfDisks, AlwaysOfDiskNodes, AlwaysOfDisks, AreSeenAlike, AreUpAsRun, DisksLeaveNodes, IsAfterDisks}
+use Rattle.group_disk.specs.Headline.{AlwaysOfDiskNodes, AlwaysOfDisks, AreSeenAlike, AreUpAsRun, DisksLeaveNodes, IsAfterDisks}
 
 -- ---- what was sent and typed
 
@@ -39,7 +39,7 @@ module _ (p : Parts) (group : Group) where
       let w = new_world p group in
       world_state (record w { members = now; sent = w.sent ++ sent; typed = w.typed ++ typed })
 
-  state_same : (log kept : List Entry) (now : List Member) → IsChosenLog log kept
+  pub state_same : (log kept : List Entry) (now : List Member) → IsChosenLog log kept
       → state_after p group kept now ≡ state_after p group log now
   state_same log kept now same =
       ap (λ (l : List Datagram). state_by now l (typed_in kept)) (sent_same log kept same)
@@ -150,40 +150,7 @@ released_over_disks always p group restarts log now size session h i m at =
           inr (from, has, is ∙ out)
     ]
 
--- ---- two moments
-
-split : (log more kept : List Entry) → IsChosenLog (log ++ more) kept
-    → (front : List Entry) × (rest : List Entry) × (kept ≡ front ++ rest) × IsChosenLog log front
-split [] more kept h = ([], kept, refl, refl)
-split (e ∷ log) more kept (inl (sent, typed, same)) =
-    let (front, rest, whole, first) = split log more kept same in
-    (front, rest, whole, inl (sent, typed, first))
-split (e ∷ log) more kept (inr (save, others, is, same)) =
-    let (front, rest, whole, first) = split log more others same in
-    let one : Entry = record e { save = save } in
-    (one ∷ front, rest, is ∙ ap (λ (l : List Entry). one ∷ l) whole, inr (save, front, refl, first))
-
-pub later_of_disks : ((p : Parts) (group : Group) (runs : ℕ → List Attempt) (log more : List Entry)
-    → IsGroupLog p group runs (log ++ more) → HasRuns p group runs log)
-    → ((p : Parts) (group : Group) (runs : ℕ → List Attempt) (log : List Entry) → IsGroupLog p group runs log
-    → LeaveNodes p group runs log)
-    → (P : WorldState → WorldState → Type 0) → AlwaysLaterOfRuns P → AlwaysLaterOfDisks P
-later_of_disks fronts nodes P always p group restarts log more now size session h =
-    let (front, rest, whole, same) = split log more h.kept h.chosen.same in
-    let after : IsAfterRuns p group h.runs (front ++ rest) now = subst
-    (λ (l : List Entry). IsAfterRuns p group h.runs l now) whole h.after in
-    let all : IsChosenLog (log ++ more) (front ++ rest) = subst (IsChosenLog (log ++ more)) whole h.chosen.same in
-    let (cut, ran, first) = fronts p group h.runs front rest after.ran in
-    let (mid, before) = nodes p group cut front ran in
-    let claim = always p group cut h.runs front rest mid now size session before after in (
-      cut,
-      front,
-      mid,
-      same,
-      before,
-      subst (λ (w : WorldState). P w (state_after p group (log ++ more) now)) (state_same p group log front mid same)
-          (subst (P (state_after p group front mid)) (state_same p group (log ++ more) (front ++ rest) now all) claim),
-    )
+-- ---- the nodes that there are
 
 pub disks_leave : ((p : Parts) (group : Group) (restarts : ℕ → List Attempt) (log : List Entry) → IsDiskLog p group restarts log
     → HasKeptLog p group restarts log)

@@ -17,13 +17,13 @@ use Rattle.group_disk.specs.Restarts.{AreChosenRuns, HasKeptLog, HaveRuns, IsCho
 
 -- ---- entries of one node
 
-chosen_append : (es fs xs ys : List Entry) → IsChosenLog es fs → IsChosenLog xs ys → IsChosenLog (es ++ xs) (fs ++ ys)
+pub chosen_append : (es fs xs ys : List Entry) → IsChosenLog es fs → IsChosenLog xs ys → IsChosenLog (es ++ xs) (fs ++ ys)
 chosen_append [] fs xs ys h k = subst (λ (l : List Entry). IsChosenLog xs (l ++ ys)) (sym h) k
 chosen_append (e ∷ es) fs xs ys (inl (sent, typed, h)) k = inl (sent, typed, chosen_append es fs xs ys h k)
 chosen_append (e ∷ es) fs xs ys (inr (save, rest, is, h)) k =
     inr (save, rest ++ ys, ap (λ l. l ++ ys) is, chosen_append es rest xs ys h k)
 
-chosen_same : (es : List Entry) → IsChosenLog es es
+pub chosen_same : (es : List Entry) → IsChosenLog es es
 chosen_same [] = refl
 chosen_same (e ∷ es) = inr (e.save, es, refl, chosen_same es)
 
@@ -32,7 +32,7 @@ module _ (me : Me) where
   end_chosen a b None = chosen_same (run_end me.node a None)
   end_chosen a b (Some d) = inr (failed_as b, [], refl, refl)
 
-  ends_chosen : (run : NodeRun) (a b : Stand) → IsSameStand a b → IsChosenLog (ends_by me run a) (ends_by me run b)
+  pub ends_chosen : (run : NodeRun) (a b : Stand) → IsSameStand a b → IsChosenLog (ends_by me run a) (ends_by me run b)
   ends_chosen run GoesOn b is = subst (λ (s : Stand). IsChosenLog [] (ends_by me run s)) (sym is) refl
   ends_chosen run (IsOver a) GoesOn none = absurd none
   ends_chosen run (IsOver a) (IsOver b) any = end_chosen a b run.process.failed
@@ -104,7 +104,7 @@ module _ (e : Entry) (log : List Entry) (want : ℕ → List Entry) (h : (i : �
       → entries_of i (record e { save = save } ∷ kept) ≡ want i
   put_back save rest kept is all i = grind (arith, nat_tests, all i)
 
-woven : (log : List Entry) (want : ℕ → List Entry) → ((i : ℕ) → IsChosenLog (entries_of i log) (want i))
+pub woven : (log : List Entry) (want : ℕ → List Entry) → ((i : ℕ) → IsChosenLog (entries_of i log) (want i))
     → (kept : List Entry) × IsChosenLog log kept × ((i : ℕ) → entries_of i kept ≡ want i)
 woven [] want h = ([], refl, λ i. sym (h i))
 woven (e ∷ log) want h =
@@ -117,14 +117,14 @@ woven (e ∷ log) want h =
           (record e { save = save } ∷ kept, inr (save, kept, refl, same), put_back e log want h save rest kept is all)
     ]
 
-chosen_all : (P : ℕ → Type 0) (log kept : List Entry) → IsChosenLog log kept → AllByRecursion (λ (e : Entry). P e.node) log
+pub chosen_all : (P : ℕ → Type 0) (log kept : List Entry) → IsChosenLog log kept → AllByRecursion (λ (e : Entry). P e.node) log
     → AllByRecursion (λ (e : Entry). P e.node) kept
 chosen_all P [] kept is h = subst (AllByRecursion (λ (e : Entry). P e.node)) (sym is) tt
 chosen_all P (e ∷ log) kept (inl (sent, typed, same)) h = chosen_all P log kept same h.1
 chosen_all P (e ∷ log) kept (inr (save, rest, is, same)) h =
     subst (AllByRecursion (λ (e : Entry). P e.node)) (sym is) (h.0, chosen_all P log rest same h.1)
 
-chosen_carried : (group : Group) (sent : List Datagram) (log kept : List Entry) → IsChosenLog log kept → IsCarried group sent log
+pub chosen_carried : (group : Group) (sent : List Datagram) (log kept : List Entry) → IsChosenLog log kept → IsCarried group sent log
     → IsCarried group sent kept
 chosen_carried group sent [] kept is h = subst (IsCarried group sent) (sym is) tt
 chosen_carried group sent (e ∷ log) kept (inl (none, typed, same)) h =

@@ -5,7 +5,9 @@ mod DiskClaims
 mod TakenBack
 mod SeenSame
 mod DiskFronts
+mod DiskMoments
 mod DiskRuns
 mod RunsWrite
 mod CallsInTurn
 mod DiskNetworks
+mod TornFiles

@@ -20,7 +20,7 @@ module _ (p : Parts) (me : Me) where
   may_campaign = record { spare = omega arith; made = rw front_is tt }
 
 module _ (p : Parts) (me : Me) (loaded : Record) where
-  is_run : (a : Bool) → MayCampaign p me loaded → IsProcess p me (campaigns p me loaded a).process (campaigns p me loaded a).last
+  pub is_run : (a : Bool) → MayCampaign p me loaded → IsProcess p me (campaigns p me loaded a).process (campaigns p me loaded a).last
   is_run a may = record { spare = λ e. absurd (omega (arith, e, may.spare)); does = refl; fails = (may.made, refl, (refl, refl)) }
 
   -- the records at the end of it

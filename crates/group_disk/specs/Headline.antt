@@ -9,7 +9,7 @@ use Rattle.group_world.specs.Group.{member_at}
 use Rattle.group_world.specs.Member.{Member}
 use Rattle.group_world.specs.Processes.{Entry}
 use Rattle.group_process.specs.Runs.{AreFirstRuns, Attempt, IsAfterRuns, node_after, state_after}
-use Rattle.group_disk.specs.Restarts.{IsChosenLog, IsDiskLog, IsKeptLog}
+use Rattle.group_disk.specs.Restarts.{IsDiskLog, IsKeptLog}
 
 -- The nodes `now` of a group after a log of its processes over their disks. They are those after
 -- the same runs over stores that keep their records, by a choice of what each disk has.
@@ -58,13 +58,21 @@ AlwaysOfDiskNodes Q =
     (now : List Member) → IsSize group.size → IsGroup group
     → IsAfterDisks p group restarts log now → Q restarts now
 
--- What holds of every two moments of a log: `mid` are the nodes after its front, by the same
--- choice.
+-- Two moments of a log over disks: after `log`, and after all of it. The starts `cut` up to the
+-- first moment are the first of the starts, and the last one of each node may be cut off there.
+pub record AreMomentsOfDisks (p : Parts) (group : Group) (cut restarts : ℕ → List Attempt)
+    (log more : List Entry) : Type 0 where
+  pub before : IsDiskLog p group cut log
+  pub all : IsDiskLog p group restarts (log ++ more)
+  pub first : (i : ℕ) → AreFirstRuns (cut i) (restarts i)
+
+-- What holds of every two moments of a log: `mid` are the nodes after its front, and `now` those
+-- after all of it, by whichever choice for each of the two.
+-- Allows: a record that `mid` has of a node that is down, and that no later start finds.
 abbrev pub AlwaysLaterOfDisks : (WorldState → WorldState → Type 0) → Type 0
 AlwaysLaterOfDisks P =
-    (p : Parts) (group : Group) (restarts : ℕ → List Attempt) (log more : List Entry)
-    (now : List Member) → IsSize group.size → IsGroup group
+    (p : Parts) (group : Group) (cut restarts : ℕ → List Attempt) (log more : List Entry)
+    (mid now : List Member) → IsSize group.size → IsGroup group
+    → AreMomentsOfDisks p group cut restarts log more → IsAfterDisks p group cut log mid
     → IsAfterDisks p group restarts (log ++ more) now
-    → (cut : ℕ → List Attempt) × (kept : List Entry) × (mid : List Member)
-    × IsChosenLog log kept × IsAfterRuns p group cut kept mid
-    × P (state_after p group log mid) (state_after p group (log ++ more) now)
+    → P (state_after p group log mid) (state_after p group (log ++ more) now)

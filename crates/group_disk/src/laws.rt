@@ -25,13 +25,16 @@ ghost use Rattle.group_process.specs.Runs.{AreRuns, Attempt, ConsolesAreReleased
 ghost use Rattle.group_disk.specs.DiskCalls.{AreCallsAt, AreDiskCalls, DiskCall, HaveStarts, WriteAt, runs_of};
 ghost use Rattle.group_disk.specs.Folders.{AreOverDisk, DiskStart, IsFolderLog, IsNetworkFolderLog, IsOverDisk, LeavesNoMoreThan, start_over, starts_of};
 ghost use Rattle.group_disk.specs.Headline.{AlwaysLaterOfDisks, AlwaysOfDiskNodes, AlwaysOfDisks, AreSeenAlike, AreUpAsRun, DisksLeaveNodes, HasFirstStarts, IsAfterDisks};
+ghost use Rattle.group_disk.specs.TornStarts.{first_of_three, no_files, torn_group, torn_log, torn_starts};
 ghost use Rattle.group_process.specs.Terminals.{TerminalsAreConsoles, TerminalsShowConsoles, TerminalsShowLastRuns};
 ghost use Rattle.group_disk.specs.Written.{IsWrittenAt};
 ghost use Rattle.group_disk.specs.Restarts.{AreChosenRuns, AreRestarts, AreSeenSame, HasKeptLog, HaveRuns, IsDiskLog};
 
 use group_process::laws::{networks_carry, runs_headline, terminals_are_consoles};
-use paxos_acceptor::Store;
+use paxos_acceptor::{Me, Store};
 use paxos_disk::Disk;
+use paxos_disk::laws::{logs_grow, torn_appends, what_restarts_load};
+use paxos_msg::Group;
 use pcode_machine::laws::prefixes_are_ordered;
 
 /// Starts over a disk are runs over a store that keeps its record, with the same deeds.
@@ -134,6 +137,26 @@ pub fn a_promise_is_taken_back()
         → ¬ AreRuns p me loaded (taken_back p me loaded a b c) }
     ensures some { (p : Parts) (me : Me) → MayCampaign p me empty_record }
 {}
+
+/// The premises of the main theorem can be met away from the first start. Four starts over one disk
+/// are given with all bytes of its file, as a log of a group of three.
+///
+/// Node 1 campaigns and is killed. The save of its next start fails, and was made for all that. The
+/// third start loads what it has left and campaigns, and the append of its promise is torn. The
+/// fourth one starts over the log with the torn end.
+pub fn starts_may_be_torn()
+    ensures starts { (p : Parts) → AreOverDisk p first_of_three no_files (torn_starts p) }
+    ensures logged { (p : Parts)
+        → IsFolderLog p first_of_three.group (λ i. no_files) (torn_group p) (torn_log p) }
+{
+    let group = Group {
+        size: 3,
+        session: 7,
+    };
+    logs_grow();
+    torn_appends();
+    what_restarts_load(Me { node: 1, group });
+}
 
 /// A run over an honest disk is a start of its node over the folder of that disk, whichever of the
 /// two records a failed save has left. One that is refused is a start whose save failed, or it

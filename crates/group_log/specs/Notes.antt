@@ -14,7 +14,7 @@ use Rattle.group_log.specs.declared.drops.Drops.{Drops}
 use Rattle.group_log.specs.declared.note.ProcessEnd.{ProcessEnd}
 use Rattle.group_log.specs.declared.note.ProcessEnd.TheVariants.{Turns, Node, Other}
 use Rattle.group_log.specs.declared.note.Note.{Note}
-use Rattle.group_log.specs.declared.note.Note.TheVariants.{NoFile, NoSocket, NoRecord, BadRecord, StartedNew, Started, Campaigns, CampaignRefused, Leads, BallotRefused, Dropped, Unsent, Full, Places, TraceLost, Program, Ended}
+use Rattle.group_log.specs.declared.note.Note.TheVariants.{NoFile, NoSocket, NoRecord, BadRecord, StartedNew, Started, Campaigns, CampaignRefused, Leads, BallotRefused, Dropped, Unsent, Full, Places, Known, TraceLost, Program, Ended}
 
 -- A text, a number in decimal digits, and what follows.
 abbrev pub numbered_note : List ℕ → ℕ → List ℕ → List ℕ
@@ -84,6 +84,8 @@ note_text (Full waiting) =
     numbered_note (codes "no room for typed keys: ") waiting
     (codes " wait to be chosen, and more are held back")
 note_text (Places places) = numbered_note (codes "places ") places (codes " of " ++ decimal PLACES)
+note_text (Known places waiting) =
+    numbered_note (codes "known front ") places (codes " waiting " ++ decimal waiting)
 note_text TraceLost = codes "trace lost: it cannot be written"
 note_text (Program end) = program_text end
 note_text (Ended end) = end_text end

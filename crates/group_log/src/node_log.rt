@@ -12,8 +12,19 @@ use std::alloc::Global;
 use std::io::Write;
 use std::time::{Clock, Duration, Instant, SystemTime};
 
-/// The least time in seconds from one note of counted datagrams to the next.
+/// The least time in seconds from one note of counts to the next of the same kind.
 const COUNTS_APART: u64 = 1;
+
+/// What is written into the log of a node.
+#[derive(Clone, Copy, Debug, PartialEq, Eq)]
+pub enum LogLevel {
+    /// Nothing.
+    Off,
+    /// A line for each change.
+    Notes,
+    /// Also how many places are known and how many keys wait, once a second while that changes.
+    Counts,
+}
 
 /// Returns the time in milliseconds from the start of 1970 on, in UTC, or 0 if the clock cannot be
 /// read.
@@ -27,20 +38,23 @@ pub fn millis_now<H: Clock>(clock: &H) -> u64 {
     }
 }
 
-/// The log of one node. If it is on, it writes notes to `errors`, a line each. A line that cannot
-/// be made or written is left out.
+/// The log of one node. If it is not off, it writes notes to `errors`, a line each. A line that
+/// cannot be made or written is left out.
 #[derive(Drop)]
 pub struct Log<'a, H, E> {
     alloc: Global,
     clock: &'a H,
     errors: &'a mut E,
-    is_on: bool,
+    level: LogLevel,
     node: u8,
     role: Role,
     is_full: bool,
     marks: u8,
     has_ended: bool,
     counts_noted: Option<Instant>,
+    /// The known front and the number of waiting keys that were noted last, and when.
+    known: Option<(u32, usize)>,
+    known_noted: Option<Instant>,
 }
 
 impl<'a, H: Clock, E: Write> Log<'a, H, E> {
@@ -50,30 +64,32 @@ impl<'a, H: Clock, E: Write> Log<'a, H, E> {
         clock: &'a H,
         errors: &'a mut E,
         node: u8,
-        is_on: bool,
+        level: LogLevel,
     ) -> Log<'a, H, E> {
         Log {
             alloc,
             clock,
             errors,
-            is_on,
+            level,
             node,
             role: Role::Follower,
             is_full: false,
             marks: 0,
             has_ended: false,
             counts_noted: None,
+            known: None,
+            known_noted: None,
         }
     }
 
     /// Returns true if notes are written.
     pub fn is_on(&self) -> bool {
-        self.is_on
+        self.level != LogLevel::Off
     }
 
     /// Writes a note, if the log is on.
     pub fn note(&mut self, note: &Note<'_>) {
-        if !self.is_on {
+        if !self.is_on() {
             return;
         }
         if let Ok(line) = line_of(self.alloc, millis_now(self.clock), self.node, note) {
@@ -98,7 +114,7 @@ impl<'a, H: Clock, E: Write> Log<'a, H, E> {
     /// Notes what has changed since the last look: of the node's ballot, and how many places are
     /// taken.
     pub fn look<S: Store>(&mut self, node: &Protocol<S>) {
-        if !self.is_on {
+        if !self.is_on() {
             return;
         }
         let next = self.role.next(node.ballot(), node.is_leading());
@@ -116,6 +132,7 @@ impl<'a, H: Clock, E: Write> Log<'a, H, E> {
         }
         self.role = next;
         self.look_at_places(node.learner().known_front());
+        self.look_at_known(node.learner().known_front(), node.waiting());
     }
 
     /// Notes that a half, three quarters, nine tenths or all of the places are taken, once each.
@@ -127,6 +144,19 @@ impl<'a, H: Clock, E: Write> Log<'a, H, E> {
         self.marks = reached;
     }
 
+    /// Notes the known front and how many keys wait, if that is asked for, one of them has changed,
+    /// and a second has passed.
+    fn look_at_known(&mut self, places: u32, waiting: usize) {
+        if self.level != LogLevel::Counts || self.known == Some((places, waiting)) {
+            return;
+        }
+        if let Some(now) = self.due_after(self.known_noted) {
+            self.known_noted = Some(now);
+            self.known = Some((places, waiting));
+            self.note(&Note::Known { places, waiting });
+        }
+    }
+
     /// Notes the end of the program that a run has come to, if it has, for the first time in this
     /// process.
     pub fn note_program_end(&mut self, reached: Option<End>) {
@@ -136,27 +166,28 @@ impl<'a, H: Clock, E: Write> Log<'a, H, E> {
         }
     }
 
-    /// Returns true if a second has passed since counted datagrams were last noted: then they are
-    /// noted now.
-    fn is_due(&mut self) -> bool {
+    /// Returns the time, if a second has passed since `last`.
+    fn due_after(&self, last: Option<Instant>) -> Option<Instant> {
         let Ok(now) = Instant::now(self.clock) else {
-            return false;
+            return None;
         };
-        if let Some(last) = self.counts_noted
-            && now.saturating_duration_since(last) < Duration::from_secs(COUNTS_APART)
-        {
-            return false;
+        match last {
+            Some(last) if now.saturating_duration_since(last) < Duration::from_secs(COUNTS_APART) =>
+                { None }
+            _ => Some(now),
         }
-        self.counts_noted = Some(now);
-        true
     }
 
     /// Notes dropped datagrams, and that none could be sent, at most once a second. Returns true if
     /// it was time for that; then they are to be counted from 0 again.
     pub fn note_counts(&mut self, drops: &Drops, sends: &Sends) -> bool {
-        if !self.is_on || !self.is_due() {
+        if !self.is_on() {
             return false;
         }
+        let Some(now) = self.due_after(self.counts_noted) else {
+            return false;
+        };
+        self.counts_noted = Some(now);
         if *drops != Drops::default() {
             self.note(&Note::Dropped(*drops));
         }

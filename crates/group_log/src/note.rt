@@ -62,6 +62,11 @@ pub enum Note<'a> {
     Full(usize),
     /// So many places are learned, from place 0 on.
     Places(u32),
+    /// So many places are learned, from place 0 on, and so many typed keys wait.
+    Known {
+        places: u32,
+        waiting: usize,
+    },
     /// A line of its trace cannot be written, or the record could not be read for it. No line is
     /// written from then on.
     TraceLost,
@@ -231,6 +236,9 @@ impl fmt::Display for Note<'_> {
                 "no room for typed keys: {waiting} wait to be chosen, and more are held back"
             ),
             Note::Places(places) => write!(f, "places {places} of {PLACES}"),
+            Note::Known { places, waiting } => {
+                write!(f, "known front {places} waiting {waiting}")
+            }
             Note::TraceLost => write!(f, "trace lost: it cannot be written"),
             Note::Program(end) => write!(f, "{}", HowEnded(*end)),
             Note::Ended(end) => write!(f, "{end}"),

@@ -1,8 +1,10 @@
 //! The lines of a trace, which says what the calls of a node were.
 ghost use Rattle.std.specs.Prelude.{◌≡◌, ◌<◌, ◌++◌, IfOk};
+ghost use Rattle.std.specs.Option.{option_map};
 ghost use Rattle.digits.specs.Digits.{hex_text};
-ghost use Rattle.group_log.specs.Traces.{bytes_traced, traced_line};
+ghost use Rattle.group_log.specs.Traces.{IsTraceLine, bytes_traced, datagram_traced, shown_bytes, traced_line};
 
+use crate::recent::Recent;
 use digits::hex_digits;
 use group_protocol::To;
 use paxos_msg::Group;
@@ -98,7 +100,7 @@ impl fmt::Display for Traced<'_> {
             Traced::Process {
                 node,
                 group: Group { size, session },
-            } => write!(f, "trace 1 node {node} size {size} session {session}"),
+            } => write!(f, "trace 2 node {node} size {size} session {session}"),
             Traced::BeginsStart => write!(f, "begin start"),
             Traced::BeginsHear(_) => write!(f, "begin hear "),
             Traced::BeginsCampaign => write!(f, "begin campaign"),
@@ -140,14 +142,70 @@ fn push_hex(text: &mut Vec<u8>, bytes: &[u8]) -> Result<(), AllocError>
     Ok(())
 }
 
+/// Returns the datagram that a line is about, if it is about one.
+fn datagram_of<'a>(traced: &Traced<'a>) -> Option<&'a [u8]>
+    ensures { option_map (λ bytes. bytes.now) result ≡ datagram_traced traced.now }
+{
+    match *traced {
+        Traced::BeginsHear(bytes) | Traced::Heard(_, bytes) | Traced::Sent(_, bytes) => Some(bytes),
+        _ => None,
+    }
+}
+
+/// Puts bytes behind the text: in hexadecimal digits, or as those that were written so many
+/// datagrams back. Fails if memory runs out.
+fn push_bytes(
+    alloc: Global,
+    text: &mut Vec<u8>,
+    bytes: &[u8],
+    back: Option<usize>,
+) -> Result<(), AllocError>
+    ensures { IfOk result
+        (λ _. text.new.items ≡ text.old.items ++ shown_bytes back bytes.now) }
+{
+    match back {
+        None => push_hex(text, bytes),
+        Some(back) => {
+            let again = format!(in alloc; "={back}")?;
+            text.extend_from_slice(again.as_bytes())
+        }
+    }
+}
+
 /// Returns the line of a trace, with the time in milliseconds from the start of 1970 on, in UTC.
 /// Fails if memory runs out.
-pub fn traced_line(alloc: Global, millis: u64, traced: &Traced<'_>) -> Result<Vec<u8>, AllocError>
-    ensures { IfOk result (λ line. line.items ≡ traced_line millis traced.now) }
+fn line_with(
+    alloc: Global,
+    millis: u64,
+    traced: &Traced<'_>,
+    back: Option<usize>,
+) -> Result<Vec<u8>, AllocError>
+    ensures { IfOk result (λ line. line.items ≡ traced_line millis traced.now back) }
 {
     let head = format!(in alloc; "@{millis} {traced}")?;
     let mut line = Vec::from_slice(alloc, head.as_bytes())?;
-    push_hex(&mut line, bytes_of(traced))?;
+    push_bytes(alloc, &mut line, bytes_of(traced), back)?;
     line.push(b'\n')?;
+    Ok(line)
+}
+
+/// Returns the line of a trace that has these datagrams lately, with the time in milliseconds from
+/// the start of 1970 on, in UTC. A datagram that is among them is named by how many back it was
+/// written whole. Another is written whole, and is among them from then on. Fails if memory runs
+/// out; then a trace can not go on, since a number might mean another datagram.
+pub fn traced_line(
+    alloc: Global,
+    millis: u64,
+    traced: &Traced<'_>,
+    recent: &mut Recent,
+) -> Result<Vec<u8>, AllocError>
+    ensures { IfOk result
+        (λ line. IsTraceLine recent.old millis traced.now line.items recent.new) }
+{
+    let back = match datagram_of(traced) {
+        None => None,
+        Some(datagram) => recent.note(datagram)?,
+    };
+    let line = line_with(alloc, millis, traced, back)?;
     Ok(line)
 }

@@ -6,3 +6,4 @@ mod RunsShow
 mod TerminalsShow
 mod RunsMayHear
 mod NetworksCarry
+mod WrongRuns

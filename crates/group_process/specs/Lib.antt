@@ -1,3 +1,4 @@
 pub mod Runs
 pub mod Network
 pub mod Terminals
+pub mod Wrong

@@ -1,5 +1,5 @@
 //! Laws of processes, as facts about the definitions alone.
-ghost use Rattle.std.specs.Prelude.{◌≡◌, ◌+◌, ◌≤◌, ℕ, ◌++◌, Contains, drop, length, List, None, map, take};
+ghost use Rattle.std.specs.Prelude.{◌≡◌, ◌≢◌, ◌+◌, ◌≤◌, ℕ, false, [], ◌∷◌, ◌++◌, Contains, drop, length, List, None, map, take};
 ghost use Rattle.pcode_file.specs.Parts.{Parts};
 ghost use Rattle.pcode_machine.specs.Runs.{IsPrefix};
 ghost use Rattle.paxos_msg.specs.declared.message.Group.{Group};
@@ -15,8 +15,10 @@ ghost use Rattle.group_world.specs.Member.{Member};
 ghost use Rattle.group_rules.specs.Claims.{ConsolesAgree, ConsolesGrow, ConsolesHoldOutput, ConsolesShowReleased, HasNoGap, KeysOnce, LearnedAgree, LearnedChosen, LearnedStays, SerialsInOrder};
 ghost use Rattle.group_world.specs.Processes.{Entry};
 ghost use Rattle.group_process.specs.Network.{AreEntriesOf, GivenEntry, IsDeliveredLog, IsNetworkLog, MayHear, entries_alone};
-ghost use Rattle.group_process.specs.Runs.{AlwaysLaterOfRuns, AlwaysOfNodes, AlwaysOfRuns, AreHistory, AreRuns, Attempt, ConsolesAreReleased, ConsolesShowRuns, HasRuns, IsAfterRuns, IsGroupLog, LeaveNodes};
-ghost use Rattle.group_process.specs.Terminals.{TerminalsAreConsoles, TerminalsShowConsoles, TerminalsShowLastRuns};
+ghost use Rattle.group_process.specs.Runs.{AlwaysLaterOfRuns, AlwaysOfNodes, AlwaysOfRuns, AreHistory, AreRuns, Attempt, ConsolesAreReleased, ConsolesShowRuns, HasRuns, IsAfterRuns, IsGroupLog, IsOver, LeaveNodes};
+ghost use Rattle.group_process.specs.Wrong.{beside_a_run, byte_then, left_first, then_over, writes_from};
+ghost use Rattle.paxos_msg.specs.Records.{empty_record};
+ghost use Rattle.group_process.specs.Terminals.{TerminalsAreConsoles, TerminalsShowConsoles, TerminalsShowLastRuns, WriteInTurn, terminal_after};
 
 use group_world::laws::{fronts_of_logs, logs_have_one_end, processes_headline, processes_show};
 use paxos_msg::grammar::{spelling_is_read, spelling_is_short};
@@ -111,6 +113,29 @@ pub fn wrong_seen()
     ensures leaves_out { (shown released : List ℕ) (n : ℕ) → IsPrefix shown released
         → released ≡ shown ++ (take n (drop (length shown) released)
         ++ drop (length shown + n) released) }
+{}
+
+/// Runs that are none, and the right ones beside them. A second run over the record that the first
+/// one loaded, and not over the one that it left, is none; nor is one beside a run that goes on.
+pub fn wrong_runs()
+    ensures right { (p : Parts) (me : Me)
+        → AreRuns p me empty_record (then_over p me (IsOver false) (left_first p me)) }
+    ensures older_record { (p : Parts) (me : Me)
+        → ¬ AreRuns p me empty_record (then_over p me (IsOver false) empty_record) }
+    ensures beside_one { (p : Parts) (me : Me)
+        → ¬ AreRuns p me empty_record (beside_a_run p me) }
+{}
+
+/// What no runs write at a terminal, and the right runs beside it. A byte that is there is not
+/// written a second time, and none is left out before another one.
+pub fn wrong_terminals()
+    ensures right { (byte : ℕ) → WriteInTurn [] (byte_then byte 1 []) }
+    ensures shown { (byte : ℕ) → terminal_after [] (byte_then byte 1 []) ≡ byte ∷ [] }
+    ensures twice { (byte : ℕ) → ¬ WriteInTurn [] (byte_then byte 0 (byte ∷ [])) }
+    ensures other { (byte next : ℕ) → byte ≢ next
+        → ¬ WriteInTurn [] (writes_from (byte ∷ []) 0 0 (next ∷ []) ∷ []) }
+    ensures left_out { (byte next : ℕ)
+        → ¬ WriteInTurn [] (writes_from (byte ∷ next ∷ []) 0 1 (next ∷ []) ∷ []) }
 {}
 
 /// The main theorem for processes on wires. It is about every program, every group of 1, 3, 5, 7 or

@@ -1,5 +1,5 @@
 -- What a keyboard gives a node to do, and what it has left.
-use Rattle.std.specs.Prelude.{◌≡◌, ◌+◌, ℕ, Bool, true, false, List, [], ◌∷◌, ◌++◌, filter, flat_map, length}
+use Rattle.std.specs.Prelude.{◌≡◌, ◌+◌, ℕ, Bool, true, false, List, [], ◌∷◌, ◌++◌, filter, flat_map, length, Option, option_map}
 use Rattle.group_node.specs.Deeds.{Campaign, Deed, Press}
 
 -- The byte that is typed by a prompt, if it types one.
@@ -44,19 +44,28 @@ before_gift gift left = record {
   requests = campaigns_in gift + left.requests;
 }
 
--- A keyboard: what it has left, and whether it is closed. To a closed one nothing comes any more.
+-- A keyboard: what it has left, and whether it is closed; and all that it has taken in since it was
+-- opened, in order, where it remembers that. To a closed one nothing comes any more.
+-- Allows: a keyboard of which it is unknown what it has taken in.
 pub record KeyboardState : Type 0 where
   pub left : Remaining
   pub is_closed : Bool
+  pub taken_in : Option Remaining
+
+-- What a keyboard has taken in once this came to it.
+abbrev pub taken_more : Remaining → Option Remaining → Option Remaining
+taken_more came taken_in = option_map (λ before. with_more came before) taken_in
 
 -- A keyboard that has given these prompts, and to which nothing has come meanwhile.
 -- Forbids: a byte or a request that is given twice, or left out.
 pub record HasGiven (old : KeyboardState) (gift : List Deed) (new : KeyboardState) : Type 0 where
   pub whole : old.left ≡ before_gift gift new.left
   pub stays : new.is_closed ≡ old.is_closed
+  pub nothing : new.taken_in ≡ old.taken_in
 
--- A keyboard that has given these prompts, of what it had left and what has come meanwhile.
--- Allows: anything that comes to one that is not closed. What that was no contract knows.
+-- A keyboard that has given these prompts, of what it had left and what has come meanwhile. One
+-- that remembers has taken in exactly that.
+-- Allows: anything that comes to one that is not closed.
 -- Forbids: a byte or a request that is given twice, or that is neither given nor left; at a closed
 -- keyboard, one that it did not have.
 pub record GivesWhatCame (old : KeyboardState) (gift : List Deed) (new : KeyboardState)
@@ -65,3 +74,4 @@ pub record GivesWhatCame (old : KeyboardState) (gift : List Deed) (new : Keyboar
   pub whole : with_more came old.left ≡ before_gift gift new.left
   pub none_came : old.is_closed ≡ true → came ≡ no_keys
   pub stays : new.is_closed ≡ old.is_closed
+  pub more : new.taken_in ≡ taken_more came old.taken_in

@@ -9,7 +9,8 @@ use group_protocol::limits::MOST_WAITING;
 /// What people do at a node: they type bytes, and ask it to campaign.
 pub trait Keyboard {
     /// What it has left of what came to it: bytes in order, and the number of requests to campaign;
-    /// and whether it is closed, so that nothing comes any more.
+    /// whether it is closed, so that nothing comes any more; and all that it has taken in, where
+    /// it remembers that.
     ghost keys: { Self → KeyboardState };
 
     /// Takes in what has come since the last look.

@@ -1,6 +1,6 @@
 //! The trace of a node: a file in which it writes down its calls, and what it sends at each.
 use crate::kinds::may_save;
-use group_log::{Call, Traced, millis_now, traced_line};
+use group_log::{Call, Recent, Traced, millis_now, traced_line};
 use group_wire::Told;
 use paxos_msg::Group;
 use std::fs::{self, OpenOptions};
@@ -23,6 +23,8 @@ fn bytes_of<H: Files + AllocGlobal>(rt: &H, path: &str) -> Option<Vec<u8>> {
 pub struct Trace<'a, H: Files> {
     rt: &'a H,
     file: Option<H::File>,
+    /// The datagrams that it has lately, or `None` if there is no memory for them.
+    recent: Option<Recent>,
     /// The bytes of the record's file before the start, or `None` if they could not be read.
     record: Option<Vec<u8>>,
     /// The call that may save and has begun last.
@@ -38,6 +40,7 @@ impl<'a, H: Files> Drop for Trace<'a, H> {
         let Trace {
             rt: _rt,
             file: _file,
+            recent: _recent,
             record: _record,
             begun: _begun,
             own: _own,
@@ -63,6 +66,7 @@ impl<'a, H: Files + Clock + AllocGlobal> Trace<'a, H> {
         let mut trace = Trace {
             rt,
             file: file.ok(),
+            recent: Recent::new(rt.alloc()).ok(),
             record: bytes_of(rt, record),
             begun: Call::Start,
             own,
@@ -89,13 +93,15 @@ impl<'a, H: Files + Clock + AllocGlobal> Trace<'a, H> {
 
     /// Writes a line.
     fn write(&mut self, traced: &Traced<'_>) {
-        let millis = millis_now(self.rt);
-        let Some(file) = &mut self.file else {
-            return;
-        };
-        let is_written = match traced_line(self.rt.alloc(), millis, traced) {
-            Ok(line) => file.write_all(line.as_slice()).is_ok(),
-            Err(_) => false,
+        let is_written = match (&mut self.file, &mut self.recent) {
+            (None, _) => return,
+            (Some(_), None) => false,
+            (Some(file), Some(recent)) => {
+                match traced_line(self.rt.alloc(), millis_now(self.rt), traced, recent) {
+                    Ok(line) => file.write_all(line.as_slice()).is_ok(),
+                    Err(_) => false,
+                }
+            }
         };
         if !is_written {
             self.file = None;

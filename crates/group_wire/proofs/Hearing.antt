@@ -19,7 +19,7 @@ use Rattle.group_wire.specs.declared.answers.Received.TheVariants as answer
 use Rattle.group_wire.specs.Traffic.{Receives, Traffic, grown, handed, letters_of}
 use Rattle.group_wire.specs.Arrivals.{Arrival, Ending, Fate, Hears, GoesOn, Refuses, IsFateOf, Spells, heard_of, loss_of, lost_of, heard_message, received}
 use Rattle.group_wire.specs.Turns.{FailsAtEnd, HearsSome, IsOne, IsWireTurn, TellsOfOne, answer_of}
-use Rattle.group_wire.specs.Doings.{after_fate, after_heard, hearing, receives, ticked_if, ticking, transfers_of}
+use Rattle.group_wire.specs.Doings.{MayHaveFate, MayHaveFates, after_fate, after_heard, hearing, receives, ticked_if, ticking, transfers_of}
 use Rattle.std.specs.List.{cons_option}
 use Rattle.paxos_acceptor.specs.declared.me.Me.{Me}
 use Rattle.group_wire.proofs.Carrying.{grown_twice, passed_then}
@@ -40,6 +40,13 @@ lost_of_both came later = search (rules, sum_by-append)
 pub after_came : (n : Known) (fate : Fate) (rest : List Msg)
     → after_heard n (cons_option (heard_message fate) rest) ≡ after_heard (after_fate n fate) rest
 after_came n fate rest = grind arith
+
+-- the fates of some datagrams, and then of others
+fates_then : (n : Known) (came later : List Arrival) → MayHaveFates n came → MayHaveFates (after_heard n (heard_of came)) later
+    → MayHaveFates n (came ++ later)
+fates_then n [] later first second = second
+fates_then n (a ∷ came) later (one, first) second =
+    (one, fates_then (after_fate n a.fate) came later first (rw (after_came n a.fate (heard_of came)) at second))
 
 -- the deeds at some datagrams, and then at others
 receives_then : (me : Me) (n : Known) (came later : List Arrival)
@@ -67,6 +74,7 @@ hears_then {S} {came} {later} {ending} {old} stays first second =
         fates =
             All-append (λ (a : Arrival). IsFateOf n.me.group a.bytes a.fate) came later first.arrivals.fates
             (rw first.me at second.arrivals.fates);
+        needed = fates_then n came later first.arrivals.needed (rw first.known at second.arrivals.needed);
         last = rw first.me at second.arrivals.last;
         deaf = λ stopped.
             grind (arith, common_steps, heard_of_both, lost_of_both, first.arrivals.deaf stopped, second.arrivals.deaf (stays stopped));
@@ -94,11 +102,11 @@ HearsThere kind old new from to result = (came : List Arrival) × (ending : Endi
 -- a datagram comes, and no message is heard
 pub hears_none : {S : Type 0} (kind : StoreKind S) {g : Group} {old new : NodeState S} (from to : Option Traffic)
     (bytes : List ℕ) (fate : Fate) (h : Received)
-    → old.protocol.known.me.group ≡ g → IsFateOf g bytes fate → heard_message fate ≡ None
+    → old.protocol.known.me.group ≡ g → IsFateOf g bytes fate → MayHaveFate old.protocol.known fate → heard_message fate ≡ None
     → TellsOfOne (Ok h) (record { bytes = bytes; fate = fate } ∷ []) GoesOn → (old.protocol.is_stopped ≡ true → loss_of fate ≡ 0)
     → new.protocol.known ≡ old.protocol.known → new.progress ≡ old.progress → to ≡ grown from (Receives (Some bytes) ∷ [])
     → HearsThere kind old new from to (Ok h)
-hears_none kind from to bytes fate h group is none tells without known progress traffic =
+hears_none kind from to bytes fate h group is may none tells without known progress traffic =
     (record { bytes = bytes; fate = fate } ∷ [], GoesOn, grind (arith, common_steps, All-cons, All-nil), tells, λ failed. absurd cc)
 
 -- the node takes the message of the datagram

@@ -13,7 +13,7 @@ use Rattle.group_node.specs.NodeCalls as call
 use Rattle.group_node.specs.NodeCalls.{Makes, NodeCall, Running, call_of_campaign, call_of_press, running, unreleased_by}
 use Rattle.group_node.specs.Output.{IsReplay, RunsOn}
 use Rattle.group_protocol.specs.Packets.{Datagram, datagrams_of}
-use Rattle.group_protocol.specs.Protocol.{on_message}
+use Rattle.group_protocol.specs.Protocol.{NeedsMemory, on_message}
 use Rattle.group_protocol.specs.ProposerRows.{on_campaign}
 use Rattle.group_node.specs.States.{NodeState, input}
 use Rattle.group_protocol.specs.Tick.{on_tick}
@@ -55,6 +55,21 @@ after_fate n (Hears m) = (on_message n m.sender m.body).node
 after_fate n (Loses m) = n
 after_fate n TooLong = n
 after_fate n NoMessage = n
+
+-- A fate that a datagram may have at the node `n`: a message is lost only where the node may need
+-- memory for it.
+-- Forbids: A Refused that is lost, and so is a message that the node ignores.
+abbrev pub MayHaveFate : Known → Fate → Type 0
+MayHaveFate n (Hears m) = Unit {0}
+MayHaveFate n (Loses m) = NeedsMemory n m.sender m.body
+MayHaveFate n TooLong = Unit {0}
+MayHaveFate n NoMessage = Unit {0}
+
+-- Datagrams that came one after the other, each with a fate that it may have at the node as it was
+-- then.
+abbrev pub MayHaveFates : Known → List Arrival → Type 0
+MayHaveFates n [] = Unit {0}
+MayHaveFates n (a ∷ came) = MayHaveFate n a.fate × MayHaveFates (after_fate n a.fate) came
 
 -- The deed at a datagram with this fate.
 abbrev pub deed_of : Fate → Deed

@@ -13,7 +13,7 @@ use Rattle.group_wire.specs.declared.answers.Received.TheVariants as answer
 use Rattle.group_wire.specs.declared.answers.Turned.{Turned}
 use Rattle.group_wire.specs.declared.limits.TheConstants.{MOST_RECEIVES, TURN_STEPS}
 use Rattle.group_wire.specs.Arrivals.{Arrival, Ending, EndsAt, Fate, GoesOn, Hears, IsFateOf, IsSpelledEnding, IsUnheard, Loses, NoMessage, NoneCame, TooLong, heard_of, lost_of, received}
-use Rattle.group_wire.specs.Doings.{after_heard, hearing, ticked_if, ticking, transfers_of}
+use Rattle.group_wire.specs.Doings.{MayHaveFates, after_heard, hearing, ticked_if, ticking, transfers_of}
 use Rattle.group_wire.specs.Traffic.{Traffic, grown}
 use Rattle.pcode_machine.specs.Runs.{out}
 
@@ -36,10 +36,12 @@ IsTurnFault e = (e ≡ Stopped) ⊎ (e ≡ Store)
 -- ---- what hearing and a turn leave
 
 -- Datagrams that come to a node, and how hearing ends. Their fates are those that bytes have in its
--- group. A node that has stopped hears and loses nothing.
+-- group, and no message is lost for which the node needs no memory. A node that has stopped hears
+-- and loses nothing.
 pub record HasArrivals {S : Type 0} (n : NodeState S) (came : List Arrival) (ending : Ending)
     : Type 0 where
   pub fates : All (λ a. IsFateOf n.protocol.known.me.group a.bytes a.fate) came
+  pub needed : MayHaveFates n.protocol.known came
   pub last : IsSpelledEnding n.protocol.known.me.group ending
   pub deaf : n.protocol.is_stopped ≡ true → IsUnheard came
 

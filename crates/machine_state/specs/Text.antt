@@ -64,3 +64,8 @@ state_text end read wrote s =
 -- The text of a configuration: of its state, and of how many bytes it has read and written.
 abbrev pub configuration_text : Option End → Configuration → List ℕ
 configuration_text end c = state_text end c.read (length c.output) c.state
+
+-- A state with these frames, this next offset and this transfer in place of its own.
+abbrev pub state_with : List Frame → ℕ → Option Transfer → State → State
+state_with frames next transfer s =
+    record s { frames = frames; next = next; transfer = transfer }

@@ -46,7 +46,7 @@ pub fn state_of_program(
 }
 
 /// Writes a text. Fails with `Write`, and with nothing else, if a write fails.
-fn write_text<W: Write>(writer: &mut W, text: &String) -> Result<Stated, RunIo>
+pub fn write_text<W: Write>(writer: &mut W, text: &String) -> Result<Stated, RunIo>
     ensures ok { IfOk result (λ stated. HasTold (W.contents writer.old) (W.contents writer.new)
         (Some (string_bytes text.now)) stated) }
     ensures err { IfErr result (λ e. e ≡ run.Write) }

@@ -1,6 +1,6 @@
 //! The text of a configuration.
 ghost use Rattle.std.specs.Prelude.{◌≡◌, [], ◌∷◌, ◌++◌, flat_map, IfOk, OnOk, string_bytes, codes};
-ghost use Rattle.machine_state.specs.Text.{end_line, ended_line, frame_line, line, spaced, state_lines, state_text, transfer_line};
+ghost use Rattle.machine_state.specs.Text.{end_line, ended_line, frame_line, line, state_with, spaced, state_lines, state_text, transfer_line};
 
 use crate::halt::Halt;
 use pcode_frames::{Frame, Frames, Memory, Stack};
@@ -102,6 +102,17 @@ fn push_frames(text: &mut String, frames: &Frames) -> Result<(), AllocError>
     Ok(())
 }
 
+/// Appends the lines of all frames of a list, the main frame first.
+fn push_frame_list(text: &mut String, frames: &[Frame]) -> Result<(), AllocError>
+    ensures { OnOk result (string_bytes text.new
+        ≡ string_bytes text.old ++ flat_map frame_line frames.now) }
+{
+    for index in 0..frames.len() {
+        push_frame(text, frames[index])?;
+    }
+    Ok(())
+}
+
 /// Appends the line of the stack: its words, the top first.
 #[tactic(auto, unfolding(crate::specs::Text::line))]
 fn push_stack(text: &mut String, stack: &Stack) -> Result<(), AllocError>
@@ -147,6 +158,39 @@ fn push_state(text: &mut String, machine: &Machine<'_>) -> Result<(), AllocError
     push_memory(text, machine.memory())
 }
 
+/// Appends the lines of a machine's state with these frames, this next offset and this transfer in
+/// place of its own.
+fn push_placed_state(
+    text: &mut String,
+    machine: &Machine<'_>,
+    frames: &[Frame],
+    next: u32,
+    transfer: Option<Transfer>,
+) -> Result<(), AllocError>
+    ensures { OnOk result (string_bytes text.new
+        ≡ string_bytes text.old
+        ++ state_lines (state_with frames.now next transfer machine.now.state)) }
+{
+    push_line(text, "ioresult", u64::from(machine.io_result()))?;
+    push_line(text, "next", u64::from(next))?;
+    push_transfer(text, transfer)?;
+    push_frame_list(text, frames)?;
+    push_stack(text, machine.stack())?;
+    push_memory(text, machine.memory())
+}
+
+/// Appends the lines before those of a state: how the program halted there.
+fn push_halt(text: &mut String, halt: Halt) -> Result<(), AllocError>
+    ensures { OnOk result (string_bytes text.new ≡ string_bytes text.old
+        ++ (codes "state 1\n" ++ end_line halt.end ++ line (codes "read") (halt.read ∷ [])
+        ++ line (codes "wrote") (halt.wrote ∷ []))) }
+{
+    text.push_str("state 1\n")?;
+    push_end(text, halt.end)?;
+    push_line(text, "read", halt.read)?;
+    push_line(text, "wrote", halt.wrote)
+}
+
 /// Returns the text of a machine's state, and of how its program halted there. Fails if memory runs
 /// out.
 pub fn state_text(alloc: Global, machine: &Machine<'_>, halt: Halt) -> Result<String, AllocError>
@@ -154,10 +198,26 @@ pub fn state_text(alloc: Global, machine: &Machine<'_>, halt: Halt) -> Result<St
         ≡ state_text halt.end halt.read halt.wrote machine.now.state) }
 {
     let mut text = String::new(alloc);
-    text.push_str("state 1\n")?;
-    push_end(&mut text, halt.end)?;
-    push_line(&mut text, "read", halt.read)?;
-    push_line(&mut text, "wrote", halt.wrote)?;
+    push_halt(&mut text, halt)?;
     push_state(&mut text, machine)?;
+    Ok(text)
+}
+
+/// Returns the text of a machine's state with these frames, this next offset and this transfer in
+/// place of its own, and of how its program halted there. Fails if memory runs out.
+pub fn placed_state_text(
+    alloc: Global,
+    machine: &Machine<'_>,
+    frames: &[Frame],
+    next: u32,
+    transfer: Option<Transfer>,
+    halt: Halt,
+) -> Result<String, AllocError>
+    ensures { IfOk result (λ text. string_bytes text ≡ state_text halt.end halt.read halt.wrote
+        (state_with frames.now next transfer machine.now.state)) }
+{
+    let mut text = String::new(alloc);
+    push_halt(&mut text, halt)?;
+    push_placed_state(&mut text, machine, frames, next, transfer)?;
     Ok(text)
 }

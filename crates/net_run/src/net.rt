@@ -4,7 +4,7 @@ ghost use Rattle.group_udp.specs.Refusals.{IsOpenRefusal};
 ghost use Rattle.net_run.specs.Refusals.{IsFileOrInputRefusal, IsNetRefusal, IsPressRefusal, IsShownCampaignRefusal, IsShownTurnRefusal};
 
 use crate::shown::ShownNode;
-use group_log::{Log, Note};
+use group_log::{Log, LogLevel, Note};
 use group_node::Config;
 use group_udp::{GroupFault, UdpWire, Watch, bind};
 use machine_run::{RunIo, load_file, read_whole};
@@ -129,11 +129,16 @@ fn turn_all<H: Clock + Files + AllocGlobal, E: Write>(
 ) -> Result<(), GroupFault>
     ensures others { IfErr result IsShownTurnRefusal }
 {
+    let level = if is_logged {
+        LogLevel::Notes
+    } else {
+        LogLevel::Off
+    };
     let mut number = 0u8;
     for node in nodes.iter_mut() {
         number = number.saturating_add(1);
         if let Some(end) = node.turn()? {
-            Log::new(rt.alloc(), rt, errors, number, is_logged).note(&Note::Program(end));
+            Log::new(rt.alloc(), rt, errors, number, level).note(&Note::Program(end));
         }
     }
     Ok(())

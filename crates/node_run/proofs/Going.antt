@@ -1,5 +1,5 @@
 -- Calls of a node, one after the other: their deeds, and what it was prompted to do.
-use Rattle.std.proofs.Common.{◌≡◌, ◌≢◌, ◌∙◌, zero-add, ◌⊎◌, inl, inr, Bool, true, ℕ, ◌+◌, ◌<◌, ◌≤◌, List, [], ◌∷◌, ◌++◌, drop, length, min, take, map, Option, Result, Ok, Err, refl, sym, ap, arith, append_assoc, append-nil}
+use Rattle.std.proofs.Common.{◌≡◌, ◌≢◌, ◌∙◌, zero-add, ◌⊎◌, inl, inr, Bool, true, ℕ, ◌+◌, ◌<◌, ◌≤◌, List, [], ◌∷◌, ◌++◌, drop, length, min, take, map, Option, Some, None, Result, Ok, Err, refl, sym, ap, arith, append_assoc, append-nil}
 use Rattle.std.proofs.Math.Seq.{drop-append_seam, take-append_seam}
 use Rattle.std.proofs.lemmas.Grind.{common_steps, flat_map-append}
 use Rattle.std.proofs.lemmas.List.{drop_all, length-append, take-append-drop}
@@ -14,7 +14,7 @@ use Rattle.group_udp.specs.declared.fault.GroupFault.{GroupFault}
 use Rattle.group_udp.specs.declared.fault.GroupFault.TheVariants as group
 use Rattle.node_run.specs.Going.{Around, CampaignsIf, FailsAt, HasEnded, HasGone, HasGoneOn, HasReason, around, planned}
 use Rattle.group_udp.specs.Refusals.{IsCampaignRefusal}
-use Rattle.group_udp.specs.Prompts.{GivesWhatCame, HasGiven, KeyboardState, Remaining, before_gift, byte_in, campaigns_in, bytes_in, no_keys, with_more}
+use Rattle.group_udp.specs.Prompts.{GivesWhatCame, HasGiven, KeyboardState, Remaining, before_gift, byte_in, campaigns_in, bytes_in, no_keys, taken_more, with_more}
 use Rattle.node_run.specs.Answering.{left_once_given}
 use Rattle.node_run.specs.Prompted.{IsPrompted, turns_in}
 
@@ -29,6 +29,20 @@ same_left a b bytes requests = ap (λ x. record { bytes = x; requests = a.reques
 pub with_none : (left : Remaining) → with_more no_keys left ≡ left
 with_none left = same_left _ left (append-nil left.bytes) (omega arith)
 
+-- what came twice came at once
+came_twice : (a c d : Remaining) → with_more d (with_more c a) ≡ with_more (with_more d c) a
+came_twice a c d = same_left _ _ (append_assoc a.bytes c.bytes d.bytes) (omega arith)
+
+-- what was taken in before that
+taken_none : (taken_in : Option Remaining) → taken_in ≡ taken_more no_keys taken_in
+taken_none None = refl
+taken_none (Some before) = ap Some (sym (with_none before))
+
+taken_twice : (c d : Remaining) (taken_in : Option Remaining)
+    → taken_more d (taken_more c taken_in) ≡ taken_more (with_more d c) taken_in
+taken_twice c d None = refl
+taken_twice c d (Some before) = ap Some (came_twice before c d)
+
 -- a keyboard to which nothing came meanwhile
 pub gives_now : {old new : KeyboardState} {gift : List Deed} → HasGiven old gift new → GivesWhatCame old gift new
 gives_now {old} {new} {gift} h = record {
@@ -36,11 +50,13 @@ gives_now {old} {new} {gift} h = record {
   whole = with_none old.left ∙ h.whole;
   none_came = λ closed. refl;
   stays = h.stays;
+  more = h.nothing ∙ taken_none old.taken_in;
 }
 
 -- a keyboard that has given nothing
 pub gift_none : (keys : KeyboardState) → GivesWhatCame keys [] keys
-gift_none keys = gives_now (record { whole = same_left keys.left (before_gift [] keys.left) refl (omega arith); stays = refl })
+gift_none keys =
+    gives_now (record { whole = same_left keys.left (before_gift [] keys.left) refl (omega arith); stays = refl; nothing = refl })
 
 -- what a keyboard has left at which nothing is given
 pub looked : {old new : KeyboardState} (h : GivesWhatCame old [] new) → new.left ≡ with_more h.came old.left
@@ -48,10 +64,6 @@ looked {old} {new} h = same_left new.left (before_gift [] new.left) refl (omega 
 
 pub not_given : {old new : KeyboardState} → HasGiven old [] new → new.left ≡ old.left
 not_given {old} {new} h = same_left new.left (before_gift [] new.left) refl (omega arith) ∙ sym h.whole
-
--- what came twice came at once
-came_twice : (a c d : Remaining) → with_more d (with_more c a) ≡ with_more (with_more d c) a
-came_twice a c d = same_left _ _ (append_assoc a.bytes c.bytes d.bytes) (omega arith)
 
 -- what comes to a keyboard comes behind what it gives
 came_behind : (gift : List Deed) (left came : Remaining) → with_more came (before_gift gift left) ≡ before_gift gift (with_more came left)
@@ -66,6 +78,7 @@ pub given_both : {a b c : KeyboardState} {g h : List Deed} → HasGiven a g b �
 given_both {c = c} {g} {h} first second = record {
   whole = first.whole ∙ ap (before_gift g) second.whole ∙ gift_twice g h c.left;
   stays = second.stays ∙ first.stays;
+  nothing = second.nothing ∙ first.nothing;
 }
 
 pub gift_both : {a b c : KeyboardState} {g h : List Deed} → GivesWhatCame a g b → GivesWhatCame b h c → GivesWhatCame a (g ++ h) c
@@ -76,6 +89,7 @@ gift_both {a} {b} {c} {g} {h} first second = record {
   none_came = λ closed. ap (λ d. with_more d first.came) (second.none_came (first.stays ∙ closed))
       ∙ ap (with_more no_keys) (first.none_came closed);
   stays = second.stays ∙ first.stays;
+  more = second.more ∙ ap (taken_more second.came) first.more ∙ taken_twice first.came second.came a.taken_in;
 }
 
 -- ---- prompts
@@ -102,13 +116,14 @@ pressed (b ∷ bytes) = let (all, no_campaign, no_turn) = pressed bytes in (ap (
 
 -- these bytes are the first of a text, and stand before others
 pub gift_front : (n : ℕ) (all front others back : List ℕ) → length front ≡ n → front ≡ take n all → back ≡ drop n all
-    → HasGiven (record { left = record { bytes = all; requests = 0 }; is_closed = true }) (map Press (take n (front ++ others)))
-    (record { left = record { bytes = back; requests = 0 }; is_closed = true })
+    → HasGiven (record { left = record { bytes = all; requests = 0 }; is_closed = true; taken_in = Some no_keys })
+    (map Press (take n (front ++ others)))
+    (record { left = record { bytes = back; requests = 0 }; is_closed = true; taken_in = Some no_keys })
 gift_front n all front others back long is left =
     let (typed, no_campaign, _) = pressed (take n (front ++ others)) in
     let whole : all ≡ take n (front ++ others) ++ back =
     grind (arith, common_steps, take-append_seam front others, take-append-drop n all, long, is, left) in
-    record { whole = rw (typed, no_campaign, ← whole) refl; stays = refl }
+    record { whole = rw (typed, no_campaign, ← whole) refl; stays = refl; nothing = refl }
 
 -- what is left once all was given for which there was room
 pub left_given : (room n : ℕ) (given : List ℕ) (old new : Remaining) → old ≡ before_gift (map Press given) new

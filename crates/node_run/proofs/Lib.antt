@@ -6,3 +6,4 @@ mod Writing
 mod Running
 mod OverFile
 mod Cycling
+mod WrongCycles

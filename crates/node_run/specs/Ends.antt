@@ -47,9 +47,13 @@ RunsWith me program plan keys before after result =
 -- The keyboard of a plan at first: it has the text, and nothing more comes; or it has nothing, and
 -- datagrams will bring something.
 abbrev pub keyboard_at_first : Option SocketAddr → List ℕ → KeyboardState
-keyboard_at_first None text =
-    record { left = record { bytes = text; requests = 0 }; is_closed = true }
-keyboard_at_first (Some address) text = record { left = no_keys; is_closed = false }
+keyboard_at_first None text = record {
+  left = record { bytes = text; requests = 0 };
+  is_closed = true;
+  taken_in = Some no_keys;
+}
+keyboard_at_first (Some address) text =
+    record { left = no_keys; is_closed = false; taken_in = None }
 
 -- Such a run with the keyboard of the plan.
 abbrev pub RunsOpened : Me → Parts → NodePlan → List ℕ → Option (List ℕ) → Option (List ℕ)

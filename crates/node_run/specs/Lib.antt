@@ -6,3 +6,4 @@ pub mod Releases
 pub mod Runs
 pub mod Ends
 pub mod Cycles
+pub mod Wrong

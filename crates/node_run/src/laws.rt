@@ -1,9 +1,18 @@
-//! What holds of a node's output over its starts, as the contract of a function that does nothing.
-ghost use Rattle.std.specs.Prelude.{◌⊎◌, ◌++◌, List, length, max, ℕ};
+//! What holds of a node's output over its starts, and what is no cycle of a run, as contracts of
+//! functions that do nothing.
+ghost use Rattle.std.specs.Prelude.{◌≡◌, ◌+◌, ◌^◌, ◌<◌, ◌⊎◌, ◌++◌, ◌∷◌, List, Ok, length, max, ℕ};
 ghost use Rattle.pcode_machine.specs.Runs.{AreComparable, IsOutput};
 ghost use Rattle.group_node.specs.Output.{IsReplay, Progress};
+ghost use Rattle.group_node.specs.NodeCalls.{running, unreleased_by};
+ghost use Rattle.group_protocol.specs.declared.limits.TheConstants.{MOST_WAITING};
+ghost use Rattle.group_wire.specs.declared.answers.Turned.{Turned};
+ghost use Rattle.node_run.specs.declared.answering.Answered.{Answered};
+ghost use Rattle.node_run.specs.Cycles.{AnswersKeyboard, ReleasesOutput, RunMoment, TakesTurn};
 ghost use Rattle.node_run.specs.Output.{AreFirst, released_from};
+ghost use Rattle.node_run.specs.Wrong.{closed_with};
 
+use group_node::Ran;
+use paxos_acceptor::Store;
 use pcode_machine::laws::{output_only_grows, prefixes_are_ordered};
 
 /// A start with `--seen 0` writes the first bytes of its output. A later one that gets the
@@ -29,3 +38,22 @@ pub fn consoles_go_on()
     output_only_grows();
     prefixes_are_ordered();
 }
+
+/// What is no part of a cycle. A keyboard that has bytes, at a node with room for one, or a request
+/// is not passed over. A turn after which the machine has more to do has made steps. Output that
+/// waits is not left at the end of a cycle.
+pub fn wrong_cycles<S: Store>()
+    ensures bytes_left { (answer : Answered) (a b : RunMoment S) (byte : ℕ) (bytes : List ℕ)
+        → length a.node.protocol.known.waiting < MOST_WAITING
+        → a.around.keyboard ≡ closed_with (byte ∷ bytes) 0
+        → b.around.keyboard ≡ a.around.keyboard → ¬ AnswersKeyboard S.kind answer a b }
+    ensures request_left { (answer : Answered) (a b : RunMoment S) (bytes : List ℕ) (requests : ℕ)
+        → 0 < requests → a.around.keyboard ≡ closed_with bytes requests
+        → b.around.keyboard ≡ a.around.keyboard → ¬ AnswersKeyboard S.kind answer a b }
+    ensures no_steps { (turned : Turned) (a b : RunMoment S) → turned.ran ≡ Ran.More
+        → a.node.progress.steps + 1 < 2 ^ 64 → b.node.progress ≡ a.node.progress
+        → ¬ TakesTurn S.kind turned a b }
+    ensures output_left { (seen : ℕ) (a b : RunMoment S) (byte : ℕ) (bytes : List ℕ)
+        → unreleased_by (running a.node) ≡ byte ∷ bytes → b.node.progress ≡ a.node.progress
+        → ¬ ReleasesOutput seen a b (Ok tt) }
+{}

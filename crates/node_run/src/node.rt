@@ -5,7 +5,7 @@ ghost use Rattle.node_run.specs.Ends.{EndsLoaded, EndsNode, IsTypedText, IsRefus
 
 use crate::cycles::RunPlan;
 use crate::run::run_opened;
-use group_log::{Log, Note, ProcessEnd};
+use group_log::{Log, LogLevel, Note, ProcessEnd};
 use group_node::{Config, NodeFault};
 use group_udp::GroupFault;
 use machine_run::{ByteWriter, MachineRefusal, load_file, read_whole};
@@ -35,8 +35,8 @@ pub struct NodePlan<'a> {
     pub keys: Option<SocketAddr>,
     /// The path of the node's trace, if it writes one: a line for each of its calls.
     pub trace: Option<&'a str>,
-    /// True if the node writes what it does to standard error, a line for each note.
-    pub is_logged: bool,
+    /// What the node writes of itself to standard error, a line for each note.
+    pub log: LogLevel,
 }
 
 /// Loads the program of a code file, and notes it if the file cannot be read.
@@ -171,7 +171,7 @@ pub fn node_file<
     ensures ends { EndsNode plan.now (R.remaining reader.old) (R.remaining reader.new)
         (W.contents writer.old) (W.contents writer.new) result }
 {
-    let mut log = Log::new(rt.alloc(), rt, errors, plan.node, plan.is_logged);
+    let mut log = Log::new(rt.alloc(), rt, errors, plan.node, plan.log);
     let done = node_noted(rt, file, plan, reader, writer, &mut log);
     note_end(plan.record, &done, &mut log);
     done

@@ -1,12 +1,11 @@
 //! A whole run of one node: over any store, wire and keyboard, over any disk, and over the files
 //! and sockets of the system.
-ghost use Rattle.std.specs.Prelude.{◌≡◌, ℕ, true, false, IfErr, IsErrOf, List, None, Option};
+ghost use Rattle.std.specs.Prelude.{◌≡◌, ℕ, [], IfErr, IsErrOf, List, None, Option, Some};
 ghost use Rattle.paxos_acceptor.specs.Stores.{CountsIf};
-ghost use Rattle.group_udp.specs.Prompts.{no_keys};
 ghost use Rattle.paxos_disk.specs.Disks.{MayFind};
 ghost use Rattle.paxos_disk.specs.Found.{disk_kind};
 ghost use Rattle.paxos_disk.specs.Reads.{IsGood};
-ghost use Rattle.node_run.specs.Ends.{RunsOpened, RunsOverFile, RunsWith};
+ghost use Rattle.node_run.specs.Ends.{RunsOpened, RunsOverFile, RunsWith, keyboard_at_first};
 ghost use Rattle.node_run.specs.Going.{around_of};
 ghost use Rattle.group_udp.specs.Refusals.{IsRunRefusal, write_failed};
 ghost use Rattle.node_run.specs.Runs.{CyclesOrRefuses};
@@ -192,7 +191,7 @@ fn run_over_text<
     log: &mut Log<'_, H, E>,
 ) -> Result<(), GroupFault>
     ensures ends { RunsWith config program.now plan.now
-        (record { left = record { bytes = text.now; requests = 0 }; is_closed = true })
+        (keyboard_at_first None text.now)
         (W.contents writer.old) (W.contents writer.new) result }
 {
     let watch = Watch::new(rt)?;
@@ -218,7 +217,7 @@ fn run_over_datagrams<
     log: &mut Log<'_, H, E>,
 ) -> Result<(), GroupFault>
     ensures ends { RunsWith config program.now plan.now
-        (record { left = no_keys; is_closed = false }) (W.contents writer.old)
+        (keyboard_at_first (Some address) []) (W.contents writer.old)
         (W.contents writer.new) result }
 {
     let watch = Watch::new(rt)?;

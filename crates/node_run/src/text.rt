@@ -10,12 +10,14 @@ pub struct Text<'a> {
 }
 
 impl Keyboard for Text<'_> {
-    ghost use Rattle.std.specs.Prelude.{true};
+    ghost use Rattle.std.specs.Prelude.{true, Some};
+    ghost use Rattle.group_udp.specs.Prompts.{no_keys};
 
     // All of it is there, and nothing more comes.
     ghost keys = { λ t. record {
       left = record { bytes = t.left.now; requests = 0 };
       is_closed = true;
+      taken_in = Some no_keys;
     } };
 
     fn look(&mut self) {}

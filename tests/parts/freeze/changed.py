@@ -1,5 +1,5 @@
 """Bytes of a frozen file that are changed: the loader refuses the file, or the check does, or the
-file does the same as before."""
+file does the same as before. And `pgroup frozen` accepts the same files as the check."""
 
 import collections
 import random
@@ -13,7 +13,7 @@ from freezer.state import state_after
 from ..checks import passed
 from ..files import bytes_of
 from ..program import PROGRAM, must, ran
-from .cuts import put
+from .cuts import is_proved, put
 from .examples import path_of, typed
 
 NAMES = ("adventure", "ledger", "four", "hello", "calculator")
@@ -32,7 +32,7 @@ def waiting(data, source):
         given = typed(source, size)
         state = state_after(PROGRAM, put(data), given)
         if state.ends == "waits":
-            return state
+            return given, state
     raise AssertionError("the program does not wait")
 
 
@@ -59,7 +59,7 @@ def try_changed(seed, count):
     source, counts = random.Random(seed), collections.Counter()
     for name in NAMES:
         data = bytes_of(path_of(name))
-        state = waiting(data, source)
+        given, state = waiting(data, source)
         made = freeze(data, state)
         length = len(Code(data).code)
         size = int.from_bytes(made[6:8], "little")
@@ -70,6 +70,9 @@ def try_changed(seed, count):
             if it == made:
                 continue
             who = what_of(data, state, it)
+            if who != "loader":
+                must(is_proved(data, given, it) == (who is None),
+                     f"{name}: pgroup frozen does not say of a changed byte what freeze does")
             if who is None:
                 must([run(it, rest) for rest in rests] == wanted, f"{name}: a changed byte passes")
             counts[who or "harmless"] += 1

@@ -11,6 +11,7 @@ from freezer.refused import Refused
 from ..program import PROGRAM, must, ran
 
 STEPS = 400000000
+MOST_STEPS = "4294967295"
 ERROR = re.compile(r"execution error (\d+) in procedure (\d+) at (\d+)")
 
 
@@ -25,6 +26,20 @@ def run(data, given):
     words = [PROGRAM, "run", put(data, "run.code"), "--steps", str(STEPS)]
     done = ran(words, given, seconds=600)
     return done.stdout, done.stderr.decode().strip()
+
+
+def answered(command, data, given, steps=MOST_STEPS):
+    """What `state` or `frozen` answers of a code file on this input: standard output, standard
+    error, and the status."""
+    words = [PROGRAM, command, put(data, "asked.code"), "--steps", steps]
+    done = ran(words, given, seconds=600)
+    return done.stdout, done.stderr.decode(), done.returncode
+
+
+def is_proved(original, given, made):
+    """True if the proved check accepts a frozen file, and says that the original stands where it
+    does stand after these keys."""
+    return answered("frozen", made, b"") == answered("state", original, given)
 
 
 def in_the_original(data, end):
@@ -67,6 +82,7 @@ class Cuts:
             made = self.frozen(now, given[before:cut])
             if made is None:
                 break
+            must(is_proved(data, given[:cut], made), f"cut at {cut}, pgroup frozen refuses it")
             shown, now, before = shown + output, made, cut
         output, ending = run(now, given[before:])
         must(shown + output == whole, f"cut at {cuts}, it writes otherwise")

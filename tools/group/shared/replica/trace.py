@@ -2,13 +2,17 @@
 it, call by call, and refuses what is none."""
 
 import binascii
+import collections
 import os
 import re
 
 # Whom a datagram to all is for.
 ALL = "all"
-HEAD = re.compile(rb"(?:@(\d{1,15}) )?trace 1 node (\d{1,20}) size (\d{1,20}) session (\d{1,20})")
-HEAD_WORDS = b"trace 1 node "
+HEAD = re.compile(rb"(?:@(\d{1,15}) )?trace ([12]) node (\d{1,20}) size (\d{1,20}) "
+                  rb"session (\d{1,20})")
+HEAD_WORDS = b"trace "
+# Version 2 names a datagram again, if it is one of so many that the process has written whole.
+MOST_RECENT = 1024
 LF = 10
 SAVING = {b"start": "start", b"campaign": "campaign"}
 # What was read of HEX last: the same datagram stands in the traces of all that send and hear it. So
@@ -89,6 +93,7 @@ class Reader:
     def __init__(self, path):
         self.path, self.at, self.time = path, 0, None
         self.process, self.call, self.begun, self.is_torn = None, None, None, False
+        self.recent = None  # the last datagrams that the process has written whole, in version 2
         self.made = {
             b"hear": self.on_hear, b"send": self.on_send, b"begin": self.on_begin,
             b"tick": self.on_tick, b"run": self.on_run, b"release": self.on_release,
@@ -163,10 +168,11 @@ class Reader:
         found = HEAD.search(line)
         if found.end() != len(line) - 1:
             self.must(False, shown(line[found.start() : -1]))
-        time, node, size, session = (it and int(it) for it in found.groups())
+        time, version, node, size, session = (it and int(it) for it in found.groups())
         is_one = size in (1, 3, 5, 7, 9) and 1 <= node <= size and session < 2**32
         self.must(is_one, f"node {node} of {size}, session {session}")
         self.time = time
+        self.recent = None if version == 1 else collections.deque(maxlen=MOST_RECENT)
         self.process = Process(self.path, self.at, time, node, size, session)
         return self.process
 
@@ -189,13 +195,27 @@ class Reader:
         before, self.call, self.begun = self.call, call, None
         return before
 
+    def datagram_of(self, text):
+        """The datagram that a line names, in HEX or by how many back it was written whole."""
+        if self.recent is None:
+            return bytes_of_hex(text)
+        if text[:1] == b"=":
+            back = number_of(text[1:])
+            if not 1 <= back <= len(self.recent):
+                self.must(False, f"the process has written {len(self.recent)} datagrams, "
+                          f"and not {back}")
+            return self.recent[-back]
+        data = bytes_of_hex(text)
+        self.recent.append(data)
+        return data
+
     # The lines.
 
     def on_begin(self, rest):
         kind, _, data = rest.partition(b" ")
         self.must(self.process, "a line before that of a process")
         if kind == b"hear":
-            call = Call("hear", self.at, self.time, bytes_of_hex(data))
+            call = Call("hear", self.at, self.time, self.datagram_of(data))
         elif kind in SAVING and not data:
             call = Call(SAVING[kind], self.at, self.time)
         else:
@@ -211,7 +231,7 @@ class Reader:
         source, _, data = rest.partition(b" ")
         if not source:
             raise ValueError
-        return self.next_call(Call("hear", self.at, self.time, bytes_of_hex(data), source))
+        return self.next_call(Call("hear", self.at, self.time, self.datagram_of(data), source))
 
     def on_press(self, rest):
         byte = self.byte_of(rest)
@@ -246,7 +266,7 @@ class Reader:
         if self.call is None or self.begun is not None:
             self.must(False, "nothing was called that could send")
         to, _, data = rest.partition(b" ")
-        data, to = bytes_of_hex(data), ALL if to == b"all" else number_of(to)
+        data, to = self.datagram_of(data), ALL if to == b"all" else number_of(to)
         if not is_datagram(data):
             self.must(False, "what was sent is no datagram")
         if self.call.sends:

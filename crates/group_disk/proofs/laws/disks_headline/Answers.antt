@@ -4,7 +4,8 @@ use Rattle.group_process.specs.Runs.{Attempt, ConsolesAreReleased, ConsolesShowR
 use Rattle.group_process.specs.Terminals.{TerminalsAreConsoles, TerminalsShowConsoles, TerminalsShowLastRuns}
 use Rattle.group_disk.specs.Headline.{AlwaysOfDiskNodes}
 use Rattle.group_rules.specs.Claims.{ConsolesAgree, ConsolesGrow, ConsolesHoldOutput, HasNoGap, KeysOnce, LearnedAgree, LearnedChosen, LearnedStays, ConsolesShowReleased, SerialsInOrder}
-use Rattle.group_disk.proofs.DiskClaims.{disks_leave, later_of_disks, of_disks, released_over_disks, seen_alike, shows_over_disks, up_as_run}
+use Rattle.group_disk.proofs.DiskClaims.{disks_leave, of_disks, released_over_disks, seen_alike, shows_over_disks, up_as_run}
+use Rattle.group_disk.proofs.DiskMoments.{AlikeLaw, grow_by_seats, later_of_disks, stays_by_seats}
 use Rattle.group_disk.proofs.laws.disks_headline.Goals as goal
 
 -- what follows of the consoles and of what was released
@@ -16,6 +17,12 @@ of_seen c Q follows p group restarts log now size session h =
     follows restarts now (shows_over_disks claims.shows_runs p group restarts log now size session h)
     (released_over_disks claims.only_released p group restarts log now size session h)
 
+alike : goal.After-prefixes_are_ordered → AlikeLaw
+alike c p group restarts log now other size session =
+    let claims = c.runs_headline.ensures in
+    seen_alike (shows_over_disks claims.shows_runs) (released_over_disks claims.only_released) c.prefixes_are_ordered.ensures.both p
+    group restarts log size session now other
+
 pub returns : goal.returns
 returns c =
     let claims = c.runs_headline.ensures in
@@ -24,9 +31,7 @@ returns c =
       nodes = disks_leave c.disk_logs_are_kept.ensures claims.nodes;
       fronts = c.fronts_of_disks.ensures;
       as_run = up_as_run;
-      alike = λ p group restarts log now other size session.
-          seen_alike (shows_over_disks claims.shows_runs) (released_over_disks claims.only_released)
-          c.prefixes_are_ordered.ensures.both p group restarts log size session now other;
+      alike = alike c;
       learned_agree = of_disks LearnedAgree claims.learned_agree;
       learned_chosen = of_disks LearnedChosen claims.learned_chosen;
       consoles_hold_output = of_disks ConsolesHoldOutput claims.consoles_hold_output;
@@ -40,6 +45,6 @@ returns c =
       terminals_show = of_seen c TerminalsShowConsoles (λ starts now shown only. terminals.shows starts now shown);
       terminals_show_last = of_seen c TerminalsShowLastRuns (λ starts now shown only. terminals.last starts now shown);
       terminals_are_whole = of_seen c TerminalsAreConsoles terminals.whole;
-      learned_stays = later_of_disks claims.fronts claims.nodes LearnedStays claims.learned_stays;
-      consoles_grow = later_of_disks claims.fronts claims.nodes ConsolesGrow claims.consoles_grow;
+      learned_stays = later_of_disks claims.nodes (alike c) LearnedStays stays_by_seats claims.learned_stays;
+      consoles_grow = later_of_disks claims.nodes (alike c) ConsolesGrow grow_by_seats claims.consoles_grow;
     }

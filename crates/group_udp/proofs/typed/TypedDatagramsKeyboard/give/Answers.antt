@@ -8,4 +8,5 @@ returns-clause-given g c = record {
       (grind (arith, c.give.ensures.count)) c.give.ensures.given
       c.give.ensures.left;
   stays = refl;
+  nothing = refl;
 }

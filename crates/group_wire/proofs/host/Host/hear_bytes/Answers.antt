@@ -6,13 +6,13 @@ use Rattle.group_wire.proofs.host.Host.hear_bytes.Goals as goal
 
 pub returns-then-bytes-gt-LONGEST_DATAGRAM-clause-hears : goal.returns-then-bytes-gt-LONGEST_DATAGRAM-clause-hears
 returns-then-bytes-gt-LONGEST_DATAGRAM-clause-hears g c from came =
-    hears_none g.S.Store.kind _ _ _ TooLong Dropped refl (omega arith) refl (_, refl, refl, refl) (λ _. refl) refl refl came
+    hears_none g.S.Store.kind _ _ _ TooLong Dropped refl (omega arith) tt refl (_, refl, refl, refl) (λ _. refl) refl refl came
 
 pub returns-in_default-clause-hears : goal.returns-in_default-clause-hears
 returns-in_default-clause-hears g c from came =
     rw (← c.self.view_is)
     (hears_none g.S.Store.kind _ _ _ NoMessage Dropped c.self.invariant.0 (λ m spelled. absurd (cc (c.in_default.ensures.only m spelled)))
-    refl (_, refl, refl, refl) (λ _. refl) refl refl came)
+    tt refl (_, refl, refl, refl) (λ _. refl) refl refl came)
 
 pub returns-in_err-unless_memory-clause-hears : goal.returns-in_err-unless_memory-clause-hears
 returns-in_err-unless_memory-clause-hears g c from came =
@@ -32,7 +32,8 @@ pub returns-in-Err-clause-hears : goal.returns-in-Err-clause-hears
 returns-in-Err-clause-hears g c from came =
     let done = c.in-Err.ensures.responds in
     rw (← c.self.view_is)
-    (hears_none g.S.Store.kind _ _ _ (Loses c.in-Ok.view) Lost c.self.invariant.0 (search rules) refl
+    (hears_none g.S.Store.kind _ _ _ (Loses c.in-Ok.view) Lost c.self.invariant.0 (search rules)
+    (c.in-Err.ensures.needs (ap Err c.in_ok-unless_memory.ensures.memory)) refl
     (_, refl, refl, refl) (λ stopped. absurd (cc (done.sends.let_in.stopped.1 stopped, c.in_ok-unless_memory.ensures.memory)))
     done.sends.does.err c.on_message.ensures.responds.sends.progress (c.tell.ensures.passed ∙ came))
 

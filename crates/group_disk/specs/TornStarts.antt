@@ -1,0 +1,148 @@
+-- Starts of node 1 of a group of three over one disk, with all bytes of its file: among them a
+-- failed save that was made, a failed save that was torn, and a start over what that left.
+use Rattle.std.specs.Prelude.{ℕ, ◌==◌, false, true, if◌then◌else◌, List, [], ◌∷◌, ◌++◌, flat_map, Some, None}
+use Rattle.pcode_file.specs.Parts.{Parts}
+use Rattle.paxos_msg.specs.declared.ballot.Ballot.{Ballot}
+use Rattle.paxos_msg.specs.declared.record.Change.TheVariants.{Promise, Start}
+use Rattle.paxos_msg.specs.Batches.{Change, Record}
+use Rattle.paxos_msg.specs.Records.{empty_record}
+use Rattle.paxos_acceptor.specs.declared.me.Me.{Me}
+use Rattle.paxos_disk.specs.Disks.{Folder, on_disk}
+use Rattle.paxos_disk.specs.Log.{folded}
+use Rattle.group_node.specs.Deeds.{Campaign}
+use Rattle.group_protocol.specs.Packets.{datagrams_of}
+use Rattle.group_protocol.specs.ProposerRows.{on_campaign}
+use Rattle.group_wire.specs.Doings.{Doing}
+use Rattle.group_wire.specs.Process.{started}
+use Rattle.group_world.specs.Processes.{Entry}
+use Rattle.group_process.specs.Runs.{FailsToStart, IsOver, NodeRun, Starts, entries_of_attempt}
+use Rattle.group_process.specs.Wrong.{only_starts}
+use Rattle.group_disk.specs.Folders.{DiskStart, start_over, starts_of}
+use Rattle.group_disk.specs.Wrong.{campaigns}
+
+-- The node: the first of three.
+abbrev pub first_of_three : Me
+first_of_three = record { node = 1; group = record { size = 3; session = 7 } }
+
+-- The ballots of its first two campaigns.
+abbrev pub opening : Ballot
+opening = record { round = 1; node = 1 }
+
+abbrev pub second_ballot : Ballot
+second_ballot = record { round = 2; node = 1 }
+
+-- ---- the bytes of the file, and the changes that they spell
+
+-- The log after one start and a promise: its header, which ends in the session, and two entries.
+abbrev pub log_of_one : List ℕ
+log_of_one = 80 ∷ 76 ∷ 2 ∷ 1 ∷ 3 ∷ 0 ∷ 0 ∷ 0 ∷ 7 ∷ 1 ∷ 2 ∷ 0 ∷ 0 ∷ 0 ∷ 1 ∷ 1 ∷ []
+
+abbrev pub changes_of_one : List Change
+changes_of_one = Start ∷ Promise opening ∷ []
+
+-- The same after two, three and four starts.
+abbrev pub log_of_two : List ℕ
+log_of_two = log_of_one ++ 1 ∷ []
+
+abbrev pub changes_of_two : List Change
+changes_of_two = changes_of_one ++ Start ∷ []
+
+abbrev pub log_of_three : List ℕ
+log_of_three = log_of_two ++ 1 ∷ []
+
+abbrev pub changes_of_three : List Change
+changes_of_three = changes_of_two ++ Start ∷ []
+
+abbrev pub log_of_four : List ℕ
+log_of_four = log_of_three ++ 1 ∷ []
+
+abbrev pub changes_of_four : List Change
+changes_of_four = changes_of_three ++ Start ∷ []
+
+-- The promise of the second ballot as an entry, of which a crash leaves three bytes.
+abbrev pub promise_left : List ℕ
+promise_left = 2 ∷ 0 ∷ 0 ∷ []
+
+abbrev pub promise_lost : List ℕ
+promise_lost = 0 ∷ 2 ∷ 1 ∷ []
+
+-- ---- the folders
+
+-- No file.
+abbrev pub no_files : Folder
+no_files = record { file = None; others = []; fresh = None }
+
+-- A file with these bytes, all of them on the disk.
+abbrev pub synced_folder : List ℕ → Folder
+synced_folder bytes = record { file = Some (on_disk bytes); others = []; fresh = None }
+
+-- A new log has the name of the one before it, and the sync of the folder has failed: a crash may
+-- leave either.
+abbrev pub renamed_folder : Folder
+renamed_folder = record {
+  file = Some (on_disk log_of_two);
+  others = Some (on_disk log_of_one) ∷ [];
+  fresh = None;
+}
+
+-- A promise was appended, and its sync has failed: a crash may leave any front of it.
+abbrev pub appended_folder : Folder
+appended_folder = record {
+  file = Some (record {
+    kept = log_of_three;
+    more = promise_left ++ promise_lost;
+    is_sound = false;
+  });
+  others = [];
+  fresh = None;
+}
+
+-- ---- the starts
+
+-- A run over no record that campaigns, and is killed.
+abbrev pub first_campaign : Parts → Me → Doing
+first_campaign p me = record {
+  deed = Campaign;
+  given = [];
+  sent = datagrams_of me (on_campaign (started p me empty_record).known).sends;
+  typed = [];
+}
+
+abbrev pub campaigned : Parts → Me → NodeRun
+campaigned p me =
+    let up = started p me empty_record in
+    record {
+      process = record { loaded = empty_record; doings = first_campaign p me ∷ []; failed = None };
+      last = record up { known = (on_campaign up.known).node };
+      stand = IsOver false;
+    }
+
+-- The record of these changes.
+abbrev pub record_by_changes : List Change → Record
+record_by_changes changes = folded empty_record changes
+
+-- Four starts of the node, each over what a crash has left of its folder. The first one finds no
+-- file, promises a ballot, and is killed. The save of the second one fails, and its log has been
+-- renamed for all that. The third one loads that log and campaigns, and the append of its promise
+-- fails. The fourth one finds half of that promise behind the log, and passes it over.
+abbrev pub torn_starts : Parts → List DiskStart
+torn_starts p =
+    start_over no_files (Starts (campaigned p first_of_three)) (synced_folder log_of_one)
+    ∷ start_over (synced_folder log_of_one)
+    (FailsToStart (record_by_changes changes_of_one) true) renamed_folder
+    ∷ start_over (synced_folder log_of_two)
+    (Starts (campaigns p first_of_three (record_by_changes changes_of_two) false)) appended_folder
+    ∷ start_over (synced_folder (log_of_three ++ promise_left))
+    (Starts (only_starts p first_of_three (record_by_changes changes_of_three) (IsOver false)))
+    (synced_folder log_of_four)
+    ∷ []
+
+-- ---- a log of the group
+
+-- The starts of each node of that group: those of node 1, and none of the others.
+abbrev pub torn_group : Parts → ℕ → List DiskStart
+torn_group p i = if 1 == i then torn_starts p else []
+
+-- What they do, in order of time.
+abbrev pub torn_log : Parts → List Entry
+torn_log p = flat_map (entries_of_attempt first_of_three) (starts_of (torn_starts p))

@@ -1,0 +1,3 @@
+mod Footers
+mod Told
+mod Waits
