@@ -35,10 +35,10 @@ def parts_of(made):
     return made[:begin], made[begin:middle], made[middle:end], made[end:]
 
 
-def with_wrong_rows(made):
-    """The file with each row a byte further in the original."""
+def with_rows(made, procedure, further):
+    """The file whose rows lead to another procedure of the original, so many bytes further."""
     front, rows, original, footer = parts_of(made)
-    moved = (ROW.pack(*it[:4], it[4] + 1) for it in ROW.iter_unpack(rows))
+    moved = (ROW.pack(*it[:3], procedure, it[4] + further) for it in ROW.iter_unpack(rows))
     return front + b"".join(moved) + original + footer
 
 
@@ -73,7 +73,8 @@ def try_refusals():
         ("a program that writes at first", prompts, b"", "Z4"),
         ("a program that ends at first", ends + rows + original + footer, b"", "Z4"),
         ("an end on the input", made, b"X.", "Z5"),
-        ("rows that lead elsewhere", with_wrong_rows(made), b"", "Z6"),
+        ("rows of another procedure", with_rows(made, 2, 0), b"", "Z6"),
+        ("rows that lead elsewhere", with_rows(made, 1, 1), b"", "Z7"),
         ("another original", with_another_original(made, echo_until(b",")), b"", "Z7"),
         ("more bytes read than are counted", with_footer(made, read=MOST_COUNTED), b"X", "Z8"),
         ("more bytes written", with_footer(made, wrote=MOST_COUNTED), b"X", "Z8"),
