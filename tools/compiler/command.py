@@ -116,21 +116,36 @@ def words_parser():
     return parser
 
 
-class FileAlone:
-    """The words of a call with a file and no options."""
+class FewWords:
+    """The words of a call with a file, and with no more than -o FILE and --check."""
 
-    output = where = None
+    file = output = where = None
     line_end, heap, files, screen = "lf", HEAP, (), "ansi"
     no_echo = show_files = pack_texts = check = asm = list = library = False
 
-    def __init__(self, file):
-        self.file = file
+
+def few_words(arguments):
+    """The words if they are but a few, as they mostly are; else None. To load argparse and to
+    make its parser takes a fifth of the time of a small program."""
+    words, waiting = FewWords(), list(arguments)
+    while waiting:
+        word = waiting.pop(0)
+        if word == "--check":
+            words.check = True
+        elif word == "-o" and waiting and not waiting[0].startswith("-"):
+            words.output = waiting.pop(0)
+        elif word.startswith("-") or words.file:
+            return None
+        else:
+            words.file = word
+    return words if words.file else None
 
 
 def words_of(arguments):
     """What the words of the command line say."""
-    if len(arguments) == 1 and not arguments[0].startswith("-"):
-        return FileAlone(arguments[0])
+    words = few_words(arguments)
+    if words:
+        return words
     parser = words_parser()
     words = parser.parse_args(arguments)
     if not words.file and not words.library:

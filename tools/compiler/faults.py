@@ -1,21 +1,37 @@
 """What is wrong with a program, and where."""
 
-from contextlib import contextmanager
-from typing import Dict, List, NamedTuple
+from __future__ import annotations
 
 from pcode.faults import Fault
 
 MOST_FAULTS = 10
 
 
-class Place(NamedTuple):
-    """A place in a text, with the compiler options that hold there."""
+class Place:
+    """A place in a text, with the compiler options that hold there: `is_checked` is {$R+}, ranges
+    are checked; `is_io_checked` {$I+}, a unit that does not exist is an execution error."""
 
-    file: str
-    line: int
-    column: int
-    is_checked: bool = True  # {$R+}: ranges are checked
-    is_io_checked: bool = True  # {$I+}: a unit that does not exist is an execution error
+    __slots__ = ("file", "line", "column", "is_checked", "is_io_checked")
+
+    def __init__(self, file, line, column, is_checked=True, is_io_checked=True):
+        self.file, self.line, self.column = file, line, column
+        self.is_checked, self.is_io_checked = is_checked, is_io_checked
+
+    def at_column(self, column):
+        """Another place of the same line."""
+        return Place(self.file, self.line, column, self.is_checked, self.is_io_checked)
+
+    def order(self):
+        return self.file, self.line, self.column, self.is_checked, self.is_io_checked
+
+    def __eq__(self, other):
+        return isinstance(other, Place) and self.order() == other.order()
+
+    def __lt__(self, other):
+        return self.order() < other.order()
+
+    def __hash__(self):
+        return hash(self.order())
 
     def __str__(self):
         return f"{self.file}:{self.line}:{self.column}"
@@ -45,9 +61,9 @@ class Faults:
     """The faults of a program, each told once; what it lacks, and how often; and notes."""
 
     def __init__(self):
-        self.places: Dict[Place, Fault] = {}
-        self.lacks: Dict[str, List] = {}  # of each feature the first fault, and how often it is met
-        self.notes: Dict[str, Place] = {}  # each with its first place
+        self.places: dict[Place, Fault] = {}
+        self.lacks: dict[str, list] = {}  # of each feature the first fault, and how often it is met
+        self.notes: dict[str, Place] = {}  # each with its first place
 
     def is_right(self):
         return not self.places and not self.lacks
@@ -70,7 +86,7 @@ class Faults:
         if feature in self.lacks:
             self.lacks[feature][1] += 1
 
-    def told(self) -> List[Fault]:
+    def told(self) -> list[Fault]:
         """All that the program lacks, and the first ten of its other faults, in the order of the
         text."""
         lacks = [Fault(f"{fault} ({count} times)" if count > 1 else str(fault), fault.place)
@@ -78,16 +94,29 @@ class Faults:
         others = sorted(self.places.values(), key=place_of)[:MOST_FAULTS]
         return sorted(lacks + others, key=place_of)
 
-    @contextmanager
     def caught(self):
-        """Notes a fault that is met here, and goes on behind."""
-        try:
-            yield
-        except Known as known:
-            if known.is_counted:
-                self.count(known.feature)
-        except Fault as fault:
-            self.add(fault)
+        """`with faults.caught():` notes a fault that is met here, and goes on behind."""
+        return Caught(self)
+
+
+class Caught:
+    """What `Faults.caught` gives."""
+
+    def __init__(self, faults):
+        self.faults = faults
+
+    def __enter__(self):
+        return self
+
+    def __exit__(self, _kind, fault, _trace):
+        if isinstance(fault, Known):
+            if fault.is_counted:
+                self.faults.count(fault.feature)
+        elif isinstance(fault, Fault):
+            self.faults.add(fault)
+        else:
+            return False
+        return True
 
 
 def place_of(fault):

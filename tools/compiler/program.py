@@ -1,7 +1,6 @@
 """From the text of a program to its code file: the steps of the compiler, one after the other."""
 
-import re
-from typing import Any, List
+from __future__ import annotations
 
 from pcode.codefile import code_file
 from pcode.faults import Fault, TooLarge, at
@@ -21,6 +20,7 @@ SCREENS = ("ansi", "vt52", "adm3a", "soroc", "apple")
 HEAP = 4000
 MOST_FILES = 10  # of memory that are open at once, and the console and keyboard
 SEGMENT = 1
+NAMING = "ABCDEFGHIJKLMNOPQRSTUVWXYZ0123456789"  # what a segment's name has of the program's
 
 
 class Options(Fields):
@@ -29,7 +29,7 @@ class Options(Fields):
     line_end: str = "lf"  # what WRITELN writes
     heap: int = HEAP  # words for NEW
     is_echoed: bool = True  # READ from INPUT shows what it reads
-    files: List[Any] = list  # pairs of a name and the bytes that a file of memory begins with
+    files: list[object] = list  # pairs of a name and the bytes that a file of memory begins with
     is_shown: bool = False  # a file that is locked is printed
     is_packed: bool = False  # texts that are written are packed
     screen: str = "ansi"  # the terminal for GOTOXY and PAGE
@@ -39,15 +39,15 @@ class Compiled(Fields):
     """A program that was compiled."""
 
     segment: str  # its name in the code file
-    procedures: List[Procedure]  # in the order of their code: the program is the last
+    procedures: list[Procedure]  # in the order of their code: the program is the last
     data: bytes  # of the code file
-    notes: List[str]
+    notes: list[str]
 
 
 class Refused(Exception):
     """A program has faults, in the order of the text."""
 
-    def __init__(self, faults: List[Fault]):
+    def __init__(self, faults: list[Fault]):
         super().__init__(f"{len(faults)} faults")
         self.faults = faults
 
@@ -137,7 +137,7 @@ def compiled(text, file, options):
                                   LINE_ENDS[options.line_end], options.is_packed)
             program, *others = generator.procedures()
             procedures = others + [program]
-            name = re.sub(r"[^A-Z0-9]", "", main.name.upper())[:8]
+            name = "".join(it for it in main.name.upper() if it in NAMING)[:8]
             data = code_file(name, SEGMENT, procedures, main.place)
     except TooLarge:
         raise

@@ -1,7 +1,5 @@
 """What is wrong with a file, and where."""
 
-from contextlib import contextmanager
-
 
 class Fault(Exception):
     """What is wrong with a source or with a code file, and where, as FILE or as FILE:LINE."""
@@ -15,15 +13,18 @@ class TooLarge(Fault):
     """A segment has more bytes than one may have."""
 
 
-@contextmanager
-def at(place):
-    """Faults that are met here without a place are of this one."""
-    try:
-        yield
-    except Fault as fault:
-        if fault.place is None:
-            fault.place = place
-        raise
+class at:
+    """`with at(PLACE):` faults that are met here without a place are of this one."""
+
+    def __init__(self, place):
+        self.place = place
+
+    def __enter__(self):
+        return self
+
+    def __exit__(self, _kind, fault, _trace):
+        if isinstance(fault, Fault) and fault.place is None:
+            fault.place = self.place
 
 
 def in_range(what, value, least, most):

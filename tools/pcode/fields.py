@@ -9,16 +9,18 @@ class Fields:
     _names, _fresh = (), ()
 
     def __init_subclass__(cls):
-        cls._names += tuple(it for it in cls.__annotations__ if it not in cls._names)
-        defaults = [(name, getattr(cls, name, None)) for name in cls._names]
-        cls._fresh = tuple(pair for pair in defaults if pair[1] in (list, dict))
+        own = [it for it in cls.__annotations__ if it not in cls._names]
+        cls._names += tuple(own)
+        fresh = [(it, cls.__dict__[it]) for it in own if cls.__dict__.get(it) in (list, dict)]
+        cls._fresh += tuple(fresh)
 
     def __init__(self, *values, **named):
         fields = self.__dict__
         for name, make in self._fresh:
             fields[name] = make()
         fields.update(zip(self._names, values))
-        fields.update(named)
+        if named:
+            fields.update(named)
 
     def fields(self):
         """The values of the fields."""

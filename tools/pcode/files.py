@@ -2,7 +2,6 @@
 
 import os
 import stat
-from contextlib import contextmanager
 
 from .faults import Fault
 
@@ -13,16 +12,6 @@ def read_whole(name):
             return file.read()
     except OSError as fault:
         raise Fault(f"it cannot be read: {fault.strerror}", name) from None
-
-
-@contextmanager
-def removed_at_a_fault(name):
-    """Removes a file if what is done here cannot be done."""
-    try:
-        yield
-    except OSError:
-        os.remove(name)
-        raise
 
 
 def write_whole(name, data):
@@ -37,10 +26,13 @@ def write_whole(name, data):
             return
         fresh = f"{name}.{os.getpid()}"
         with open(fresh, "xb") as file:
-            with removed_at_a_fault(fresh):
+            try:
                 file.write(data)
                 file.flush()
                 os.replace(fresh, name)
+            except OSError:
+                os.remove(fresh)
+                raise
     except OSError as fault:
         raise Fault(f"it cannot be written: {fault.strerror}", name) from None
 

@@ -1,6 +1,6 @@
 """What a code file is made of: procedures, with their instructions and labels."""
 
-from typing import Any, Dict, List, Optional
+from __future__ import annotations
 
 from .fields import Fields
 
@@ -25,18 +25,18 @@ class Line:
 class Label(Fields):
     """Where a label is set, and how many instructions of its procedure stand in front of it."""
 
-    place: Any
+    place: object
     index: int
 
 
 class Procedure(Fields):
     """A procedure: the header, its instructions and its labels, of which `exit` has to be there."""
 
-    place: Any
-    number: Optional[int]
+    place: object
+    number: int | None
     name: str
     level: int
     params: int
     data: int
-    lines: List[Line] = list
-    labels: Dict[str, Label] = dict
+    lines: list[Line] = list
+    labels: dict[str, Label] = dict

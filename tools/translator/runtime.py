@@ -8,8 +8,9 @@ from compiler.faults import Faults
 from compiler.generating.generator import MOST_ROUTINES, Generator
 from compiler.parsing.lexer import fold
 from compiler.parsing.texts import read_text
+from compiler.parts import declared_in, parted
 from compiler.program import LINE_ENDS, Options, constants_of, parsed
-from compiler.runtime import COMMENT, DECLARED, NAME, Library, parted
+from compiler.runtime import Library
 from pcode.faults import Fault
 from pcode.parts import Procedure
 
@@ -27,9 +28,8 @@ class RunTime(Library):
         self.rests[number] = rest
         self.routines.update((name, (number, part)) for name, part in routines.items())
         self.places = dict(self.places)
-        for names in DECLARED.findall(COMMENT.sub("", rest.text)):
-            for name in NAME.findall(names):
-                self.places[fold(name)] = [*self.places.get(fold(name), ()), number]
+        for name in declared_in(rest):
+            self.places[name] = [*self.places.get(name, ()), number]
 
 
 class Text(NamedTuple):

@@ -5,6 +5,7 @@ from shared.asking.forms import json_of, metrics_of
 from shared.asking.texts import QUESTION, TIMES, State, answer, asked_in, question, state_in
 from shared.asking.view import NOT, UNKNOWN, UP, View
 from shared.record import Ballot
+from shared.supervising.process import Node
 
 from ..checks import expect
 
@@ -69,8 +70,29 @@ def longest():
     return State(
         9, 9, 1e10, "held", number, 4294967295, last, 65536, True, last, heard, number,
         "execution error 99 in procedure 255 at 65535", (1e10, "f" * 300), "v" * 60, "a" * 16,
-        "b" * 16, 3600.0,
+        "b" * 16, 3600.0, 65536, 256,
     )
+
+
+def check_known(_folder):
+    """How far a node knows the session: unknown as long as it does not say so."""
+    for front, waiting, said in ((None, None, ("unknown",) * 2), (12, 0, ("12", "0"))):
+        view = View(7, ADDRESSES, {1: of(1)._replace(front=front, waiting=waiting)})
+        line, json, metrics = list(view.lines())[1], json_of(view), metrics_of(view)
+        shown = "known front {}, keys waiting {}".format(*said)
+        is_so = f"; {shown}; " in line
+        told = [it.replace("unknown", "null") for it in said]
+        is_so &= '"known_front": {},\n   "keys_waiting": {},'.format(*told) in json
+        for name, value in zip(("known_front", "keys_waiting"), said):
+            sample = f'\npgroup_node_{name}{{session="7",node="1"}} {value}\n'
+            is_so &= sample in metrics or value == "unknown" and name not in metrics
+        expect(f"{shown}: in the line, in JSON and in the metrics", is_so, line, json, metrics)
+    node = Node.__new__(Node)  # nothing of it is needed but what it notes
+    for text, known in (("known front 12 waiting 3", (12, 3)), ("leads ballot 4.2", (12, 3)),
+                        ("known front 65536 waiting 256", (65536, 256))):
+        node.note(text)
+        is_so = (node.front, node.waiting) == known
+        expect(f"a node's log: {text}", is_so, node.front, node.waiting)
 
 
 def check_texts(_folder):

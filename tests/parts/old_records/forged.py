@@ -1,5 +1,6 @@
 """Heartbeats that nobody with the key has sent, or that come once more."""
 
+import hmac
 import os
 import re
 import socket
@@ -8,7 +9,7 @@ import time
 from shared.files import Refused
 from shared.nodes import free_addresses
 from shared.supervising.beats import Beats, text_of_beat
-from shared.supervising.key import key_of, make_key
+from shared.supervising.key import key_of, make_key, signed
 from shared.supervising.office import Beat
 
 from ..checks import expect, passed
@@ -110,12 +111,14 @@ def check_signed(_folder):
         expect(f"a heartbeat {what} counts {wanted[0]} times", is_so, found)
     check_repeats()
     check_counters()
+    check_short()
 
 
 def check_repeats():
     pair = Pair(KEY, KEY)
     try:
-        data = pair.two.said(text_of_beat(QUIET), ["run 2 1 1 1 1 5 60 2"])
+        pair.two.counter = 1
+        data, = pair.two.datagrams(text_of_beat(QUIET), ["run 2 1 1 1 1 5 60 2"])
         found = []
         for _ in range(3):
             pair.two.socket.sendto(data, pair.addresses[0])
@@ -145,6 +148,61 @@ def check_counters():
         pair.two.send(QUIET)
         beats = [beat for _, beat, _ in pair.heard()]
         expect("and goes on above what was taken last", beats == [QUIET], beats)
+    finally:
+        pair.end()
+
+
+def sent_by(beats, lines=()):
+    """What a supervisor sends to node 1, as bytes."""
+    with socket.socket(socket.AF_INET, socket.SOCK_DGRAM) as receiver:
+        receiver.bind(("127.0.0.1", 0))
+        receiver.settimeout(20)
+        beats.nodes = {receiver.getsockname(): 1}
+        beats.send(QUIET, lines)
+        return receiver.recv(4096)
+
+
+def check_short():
+    """The short form is sent to those who say that they take it, and counts once."""
+    pair = Pair(KEY, KEY)
+    try:
+        expect("before anybody is heard no form is short", b"\nmac " in sent_by(pair.two))
+        pair.two.short = {1}
+        data = sent_by(pair.two)
+        body, _, tag = data.rpartition(b" ")
+        is_so = re.fullmatch(rb"pgroup beat 7 2 0 0 5\.000 0 12 \d+", body)
+        wanted = hmac.new(KEY, body, "sha256").hexdigest()[:32].encode()
+        expect("it is the heartbeat, a counter and half a tag", is_so and tag == wanted, data)
+        expect("what has more to say is long", b"\nmac " in sent_by(pair.two, ["ask"]))
+        for what, given, wanted in (
+            ("with a digit of its tag changed", changed_digit(data), []),
+            ("with another counter", body + b"1 " + tag, []), ("as it is", data, [QUIET]),
+            ("that comes again", data, [None]),
+        ):
+            pair.two.socket.sendto(given, pair.addresses[0])
+            beats = [beat for _, beat, _ in pair.heard()]
+            expect(f"a short form {what} counts {wanted.count(QUIET)} times", beats == wanted)
+        expect("who sends it takes it", pair.one.short == {2}, pair.one.short)
+    finally:
+        pair.end()
+    check_old_version()
+
+
+def changed_digit(data):
+    return data[:-1] + (b"0" if data[-1:] != b"0" else b"1")
+
+
+def check_old_version():
+    """One who does not say that it takes the short form, as 0.13.0 does not, gets the long one."""
+    pair = Pair(KEY, KEY)
+    try:
+        for what, lines, wanted in (("a new one", b"short\n", {2}), ("an old one", b"", set())):
+            pair.two.counter += 1
+            text = b"pgroup seen 7 2 %d\n%s\n%s" % (pair.two.counter, text_of_beat(QUIET), lines)
+            pair.two.socket.sendto(signed(text, KEY), pair.addresses[0])
+            beats = [beat for _, beat, _ in pair.heard()]
+            is_so = beats == [QUIET] and pair.one.short == wanted
+            expect(f"{what} is heard, and gets the form that it takes", is_so, pair.one.short)
     finally:
         pair.end()
 

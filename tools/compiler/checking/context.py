@@ -1,8 +1,6 @@
 """What all parts of the checker stand on: the names that are known, the routine that is checked,
 and how a fault is told."""
 
-from collections import Counter
-
 from pcode.faults import Fault
 
 from ..parsing import syntax
@@ -32,7 +30,7 @@ class Context:
         self.routine = None  # the one that is checked
         self.routines = []  # all that have a body, in the order of their numbers
         self.is_library = False  # whether the library itself is checked
-        self.texts = Counter()  # how often each text that is known is written
+        self.texts = {}  # of each text that is known how often it is written
 
     def refuse(self, text, place):
         raise Fault(text, place)

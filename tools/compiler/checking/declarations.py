@@ -1,7 +1,5 @@
 """Checks declarations, and a whole program."""
 
-from contextlib import contextmanager
-
 from ..parsing import syntax
 from ..parsing.lexer import fold
 from ..units import APPLESTUFF
@@ -16,6 +14,10 @@ MOST_ROUTINES = 255
 DEEPEST = 127
 # A function's frame begins with two words, of which the first is its value.
 RESULT_WORDS = 2
+# The method for each declaration.
+DECLARED = {syntax.LabelDeclaration: "label", syntax.ConstDeclaration: "const",
+            syntax.TypeDeclaration: "type", syntax.VarDeclaration: "variables",
+            syntax.RoutineDeclaration: "routine_declaration", syntax.TypesEnd: "meet_targets"}
 # The main frame begins with INPUT and OUTPUT, which mean nothing here.
 FILE_WORDS = 2
 
@@ -32,23 +34,23 @@ class Checker(UnitParts):
     # The run-time library. Its procedures and variables get their numbers and offsets where they
     # are used.
 
-    @contextmanager
-    def in_library(self, library, faults):
-        """The library's names are known here, and no others."""
+    def in_library(self, library, faults, check):
+        """Checks something of the library, where its names are known, and no others."""
         kept = self.scopes, self.faults, self.routine, self.is_library
         self.scopes, self.faults, self.routine, self.is_library = Scopes(), faults, self.main, True
         self.scopes.open(library)
         try:
-            yield
+            check()
         finally:
             self.scopes, self.faults, self.routine, self.is_library = kept
 
-    def declare_of_library(self, node):
-        """Declares a procedure of the library without its body, and all else whole."""
-        if isinstance(node, syntax.RoutineDeclaration):
-            self.library.blocks[self.fresh_routine(node)] = node.block
-        else:
-            self.declare(node)
+    def declare_of_library(self, nodes):
+        """Declares procedures of the library without their bodies, and all else whole."""
+        for node in nodes:
+            if isinstance(node, syntax.RoutineDeclaration):
+                self.library.blocks[self.fresh_routine(node)] = node.block
+            else:
+                self.declare(node)
 
     def check_program(self, program, units=(), missing=None, files=()):
         """The routines of a program and its units, the program itself first. `missing` is the
@@ -77,14 +79,8 @@ class Checker(UnitParts):
         self.routine = around
 
     def declare(self, node):
-        makers = {
-            syntax.LabelDeclaration: self.label, syntax.ConstDeclaration: self.const,
-            syntax.TypeDeclaration: self.type, syntax.VarDeclaration: self.variables,
-            syntax.RoutineDeclaration: self.routine_declaration,
-            syntax.TypesEnd: lambda _node: self.meet_targets(),
-        }
         with self.faults.caught():
-            makers[type(node)](node)
+            getattr(self, DECLARED[type(node)])(node)
 
     def broken_at_a_fault(self, names, make):
         """What is made; if it has a fault, the names are not told of again."""

@@ -8,6 +8,14 @@ from .symbols import ConstantSymbol, TypeSymbol
 from .types import (CHAR, MOST_DIGITS, MOST_ELEMENT, MOST_WORDS, WORD, Array, File, Long, Ordinal,
                     Pointer, Record, Set, String)
 
+# The method that makes the type of each node.
+TYPES = {syntax.Name: "named_type", syntax.StringType: "string_type",
+         syntax.Enumeration: "enumeration", syntax.Subrange: "subrange",
+         syntax.ArrayType: "array_type", syntax.RecordType: "record_type",
+         syntax.SetType: "set_type", syntax.PointerType: "pointer_type",
+         syntax.LongType: "long_type", syntax.AbsentType: "absent_type",
+         syntax.FileType: "file_type"}
+
 
 class TypeMaker(Context):
     """Makes types. Pointers wait for their targets until the end of their part."""
@@ -17,15 +25,7 @@ class TypeMaker(Context):
         self.waiting = []  # pairs of a pointer and the name of its target
 
     def type_of(self, node):
-        makers = {
-            syntax.Name: self.named_type, syntax.StringType: self.string_type,
-            syntax.Enumeration: self.enumeration, syntax.Subrange: self.subrange,
-            syntax.ArrayType: self.array_type, syntax.RecordType: self.record_type,
-            syntax.SetType: self.set_type, syntax.PointerType: self.pointer_type,
-            syntax.LongType: self.long_type,
-            syntax.AbsentType: self.absent_type, syntax.FileType: self.file_type,
-        }
-        return makers[type(node)](node)
+        return getattr(self, TYPES[type(node)])(node)
 
     def absent_type(self, node):
         raise Known(node.feature, is_counted=False)  # the parser has told of it
@@ -142,7 +142,7 @@ class TypeMaker(Context):
         self.waiting.append((pointer, node.target))
         return pointer
 
-    def meet_targets(self):
+    def meet_targets(self, _node):
         """Gives the pointers that wait their targets."""
         waiting, self.waiting = self.waiting, []
         for pointer, name in waiting:

@@ -9,24 +9,24 @@ from .real_values import FUNCTIONS
 from .symbols import FileSymbol, Routine, TypeSymbol, Variable
 from .types import BOOLEAN, CHAR, INTEGER, REAL, Pointer, String, is_ordinal, wrap
 
+# The method for each function.
+STANDARD = {
+    "ABS": "abs_or_square", "SQR": "abs_or_square", "CHR": "chr", "ODD": "odd", "ORD": "ord",
+    "SUCC": "neighbour", "PRED": "neighbour", "LENGTH": "length", "POS": "pos",
+    "CONCAT": "concat", "COPY": "copy", "EOLN": "end_of", "EOF": "end_of",
+    "BLOCKREAD": "blocks", "BLOCKWRITE": "blocks", "IORESULT": "ioresult",
+    "MEMAVAIL": "memavail", "SIZEOF": "sizeof", "ADDRESS": "address", "KEYPRESS": "keypress",
+    "RANDOM": "random", "SCAN": "scan", "UNITBUSY": "unitbusy", "TRUNC": "whole",
+    "ROUND": "whole", "PWROFTEN": "power_of_ten", "REALOF": "made_real",
+    **dict.fromkeys(FUNCTIONS, "real_function"),
+}
+
 
 class StandardFunctions(Files):
     def standard_function(self, name, node):
-        makers = {
-            "ABS": self.abs_or_square, "SQR": self.abs_or_square, "CHR": self.chr, "ODD": self.odd,
-            "ORD": self.ord, "SUCC": self.neighbour, "PRED": self.neighbour,
-            "LENGTH": self.length, "POS": self.pos, "CONCAT": self.concat, "COPY": self.copy,
-            "EOLN": self.end_of, "EOF": self.end_of, "BLOCKREAD": self.blocks,
-            "BLOCKWRITE": self.blocks, "IORESULT": self.ioresult,
-            "MEMAVAIL": self.memavail, "SIZEOF": self.sizeof, "ADDRESS": self.address,
-            "KEYPRESS": self.keypress, "RANDOM": self.random, "SCAN": self.scan,
-            "UNITBUSY": self.unitbusy, "TRUNC": self.whole,
-            "ROUND": self.whole, "PWROFTEN": self.power_of_ten, "REALOF": self.made_real,
-            **dict.fromkeys(FUNCTIONS, self.real_function),
-        }
-        if name not in makers:
+        if name not in STANDARD:
             self.refuse(f"{name} is a procedure, and has no value", node.place)
-        return makers[name](name, node)
+        return getattr(self, STANDARD[name])(name, node)
 
     def abs_or_square(self, name, node):
         argument, = self.take(node, 1)

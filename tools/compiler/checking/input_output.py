@@ -43,7 +43,8 @@ class InputOutput(StandardProcedures):
         if not text:
             return []
         written = tree.WriteText(node.place, text)
-        self.texts[text] += not self.is_library
+        if not self.is_library:
+            self.texts[text] = self.texts.get(text, 0) + 1
         if not self.destination:
             return [written]
         return [tree.Perform(node.place, self.selected(self.destination)), written,

@@ -1,7 +1,5 @@
 """Checks variables, with their indices, fields and targets."""
 
-from functools import cached_property
-
 from ..parsing import syntax
 from . import tree
 from .context import kind_of, low_bit, number
@@ -9,18 +7,17 @@ from .declared_types import TypeMaker
 from .symbols import READ_FILES, FileSymbol, OpenedField, Variable
 from .types import CHAR, INTEGER, Array, File, Ordinal, Pointer, Record, String, is_ordinal
 
+# The method that makes the location of each node.
+LOCATIONS = {syntax.Name: "variable", syntax.Index: "indexed", syntax.Field: "field",
+             syntax.Dereference: "target"}
+
 
 class Locations(TypeMaker):
     def location(self, node):
         """The location of a variable."""
-        if type(node) not in self.location_makers:
+        if type(node) not in LOCATIONS:
             self.refuse("a variable is wanted here", node.place)
-        return self.location_makers[type(node)](node)
-
-    @cached_property
-    def location_makers(self):
-        return {syntax.Name: self.variable, syntax.Index: self.indexed,
-                syntax.Field: self.field, syntax.Dereference: self.target}
+        return getattr(self, LOCATIONS[type(node)])(node)
 
     def variable(self, name):
         symbol = self.scopes.find(name)

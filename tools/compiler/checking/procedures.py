@@ -9,27 +9,24 @@ from .symbols import Routine
 from .types import CHAR, INTEGER, Pointer, String, is_ordinal
 
 UNITREAD, UNITWRITE, HALT, IOCHECK = 5, 6, 39, 0
+# The method for each procedure.
+STANDARD = {
+    "CLOSE": "close", "DELETE": "delete", "DISPOSE": "dispose", "EXIT": "exit",
+    "FILLCHAR": "fillchar", "GET": "get_or_put", "GOTOXY": "gotoxy", "HALT": "halt",
+    "INSERT": "insert", "MARK": "mark", "MOVELEFT": "move", "MOVERIGHT": "move", "NEW": "new",
+    "NOTE": "note", "PAGE": "page", "PUT": "get_or_put", "RANDOMIZE": "randomize",
+    "READ": "read", "READLN": "read", "RELEASE": "release", "RESET": "open",
+    "REWRITE": "open", "SEEK": "seek", "STR": "str", "TIME": "time",
+    "UNITCLEAR": "unit_alone", "UNITREAD": "transfer", "UNITWAIT": "unit_alone",
+    "UNITWRITE": "transfer", "WRITE": "write", "WRITELN": "write",
+}
 
 
 class StandardProcedures(StandardFunctions):
     def standard_procedure(self, name, node):
-        makers = {
-            "CLOSE": self.close, "DELETE": self.delete, "DISPOSE": self.dispose,
-            "EXIT": self.exit,
-            "FILLCHAR": self.fillchar, "GET": self.get_or_put, "GOTOXY": self.gotoxy,
-            "HALT": self.halt,
-            "INSERT": self.insert, "MARK": self.mark, "MOVELEFT": self.move,
-            "MOVERIGHT": self.move, "NEW": self.new, "PAGE": self.page,
-            "READ": self.read, "READLN": self.read, "RELEASE": self.release, "RESET": self.open,
-            "NOTE": self.note, "RANDOMIZE": self.randomize, "TIME": self.time,
-            "REWRITE": self.open, "PUT": self.get_or_put, "SEEK": self.seek, "STR": self.str,
-            "UNITCLEAR": self.unit_alone,
-            "UNITREAD": self.transfer, "UNITWAIT": self.unit_alone, "UNITWRITE": self.transfer,
-            "WRITE": self.write, "WRITELN": self.write,
-        }
-        if name not in makers:
+        if name not in STANDARD:
             self.refuse(f"{name} is a function: its value goes nowhere", node.place)
-        return makers[name](name, node)
+        return getattr(self, STANDARD[name])(name, node)
 
     # Strings
 

@@ -1,7 +1,5 @@
 """Checks statements."""
 
-from functools import cached_property
-
 from ..parsing import syntax
 from . import tree
 from .context import kind_of, low_bit, number
@@ -9,6 +7,13 @@ from .input_output import InputOutput
 from .locations import is_word
 from .symbols import OpenedField, Routine, Standard, Variable
 from .types import BOOLEAN, REAL, WORD, File, Long, Record, Set, String, is_ordinal, with_article
+
+# The method for each statement.
+STATEMENTS = {syntax.Compound: "compound", syntax.Assign: "assign",
+              syntax.CallStatement: "call_statement", syntax.If: "if_statement",
+              syntax.While: "while_statement", syntax.Repeat: "repeat",
+              syntax.For: "for_statement", syntax.Case: "case", syntax.With: "with_statement",
+              syntax.Goto: "goto", syntax.Labelled: "labelled"}
 
 
 def has_same_room(text, location):
@@ -47,19 +52,11 @@ class Statements(InputOutput):
         if node is None:
             return checked
         with self.faults.caught():
-            checked = self.statement_makers[type(node)](node)
+            checked = getattr(self, STATEMENTS[type(node)])(node)
         return checked
 
-    @cached_property
-    def statement_makers(self):
-        return {
-            syntax.Compound: lambda it: self.block_of(it.statements), syntax.Assign: self.assign,
-            syntax.CallStatement: self.call_statement, syntax.If: self.if_statement,
-            syntax.While: self.while_statement, syntax.Repeat: self.repeat,
-            syntax.For: self.for_statement, syntax.Case: self.case,
-            syntax.With: self.with_statement, syntax.Goto: self.goto,
-            syntax.Labelled: self.labelled,
-        }
+    def compound(self, node):
+        return self.block_of(node.statements)
 
     def block_of(self, statements):
         return tree.Block([self.statement(it) for it in statements])

@@ -1,7 +1,6 @@
 """What names mean, and where they are looked for."""
 
-from functools import lru_cache
-from typing import Any, Dict, List, Optional
+from __future__ import annotations
 
 from pcode.faults import Fault
 from pcode.fields import Fields
@@ -25,19 +24,19 @@ STANDARD_FILES = ("INPUT", "OUTPUT", "KEYBOARD")
 class ConstantSymbol(Fields):
     """`value` is a number, of a text in quotes a string, and of a REAL its bits."""
 
-    type: Any
-    value: Any
+    type: object
+    value: object
 
 
 class TypeSymbol(Fields):
-    type: Any
+    type: object
 
 
 class Variable(Fields):
     """A variable at an offset of its routine's frame, or one whose address is there."""
 
-    type: Any
-    routine: "Routine"
+    type: object
+    routine: Routine
     offset: int
     is_address: bool = False
 
@@ -57,20 +56,20 @@ class FileSymbol(Fields):
 class OpenedField(Fields):
     """A field of a record that a WITH has opened."""
 
-    opening: Any
-    field: Any
+    opening: object
+    field: object
 
 
 class Broken(Fields):
     """A name whose declaration has a fault, which has been told; or that needs what is not there,
     which is counted."""
 
-    feature: Optional[str] = None
+    feature: str | None = None
 
 
 class Parameter(Fields):
     name: str
-    type: Any
+    type: object
     is_var: bool
     place: Place
 
@@ -80,7 +79,7 @@ class Copy(Fields):
 
     offset: int
     address: int
-    type: Any
+    type: object
 
 
 class Routine(Fields):
@@ -88,20 +87,20 @@ class Routine(Fields):
 
     name: str
     level: int
-    parent: Optional["Routine"]
-    place: Optional[Place]
+    parent: Routine | None
+    place: Place | None
     is_library: bool = False
     number: int = 0
-    parameters: List[Parameter] = list
-    result: Any = None
+    parameters: list[Parameter] = list
+    result: object = None
     is_forward: bool = False
     words: int = 0  # of the frame so far
     parameter_words: int = 0
-    copies: List[Copy] = list
-    labels: Dict[int, Any] = dict  # declared, set, or where it is used
-    files: List[Any] = list  # variables that are closed at its end
-    endings: List[Any] = list  # what is done then
-    body: Any = None  # the checked tree
+    copies: list[Copy] = list
+    labels: dict[int, object] = dict  # declared, set, or where it is used
+    files: list[object] = list  # variables that are closed at its end
+    endings: list[object] = list  # what is done then
+    body: object = None  # the checked tree
 
     def allocate(self, words, place) -> int:
         """The offset of words of the frame that are free."""
@@ -113,9 +112,8 @@ class Routine(Fields):
         return offset
 
 
-@lru_cache(maxsize=None)
 def standard_scope():
-    """What is known without a declaration. Nothing is ever added to it."""
+    """What is known without a declaration."""
     scope = {"INTEGER": TypeSymbol(INTEGER), "BOOLEAN": TypeSymbol(BOOLEAN),
              "TEXT": TypeSymbol(TEXT), "INTERACT": TypeSymbol(TEXT),
              "CHAR": TypeSymbol(CHAR), "REAL": TypeSymbol(REAL), "STRING": TypeSymbol(String(80)),
@@ -128,11 +126,14 @@ def standard_scope():
     return scope
 
 
+STANDARD_SCOPE = standard_scope()  # nothing is ever added to it
+
+
 class Scopes:
     """The names that are known, the innermost last."""
 
     def __init__(self):
-        self.scopes = [standard_scope()]
+        self.scopes = [STANDARD_SCOPE]
         self.units = None  # the feature that names which are not declared are taken for
 
     def open(self, names=None):

@@ -4,7 +4,7 @@ A node of it says what the machine has to do, so that the generator needs to kno
 rules of Pascal. Values, locations and addresses have a type; statements have a place.
 """
 
-from typing import Any, List, Optional, Tuple
+from __future__ import annotations
 
 from pcode.fields import Fields
 
@@ -14,242 +14,242 @@ from ..faults import Place
 # Values
 
 class Constant(Fields):
-    type: Any
+    type: object
     value: int
 
 
 class RealValue(Fields):
     """A REAL that is known, as its bits."""
 
-    type: Any
+    type: object
     value: int
 
 
 class LongValue(Fields):
     """A long integer that is known."""
 
-    type: Any
+    type: object
     value: int
 
 
 class LongOf(Fields):
     """An INTEGER as a long integer."""
 
-    type: Any
-    value: Any
+    type: object
+    value: object
 
 
 class LongRead(Fields):
     """A long integer that READ takes from a file of this number."""
 
-    type: Any
-    file: Any
+    type: object
+    file: object
 
 
 class LongNegative(Fields):
-    type: Any
-    value: Any
+    type: object
+    value: object
 
 
 class LongOperation(Fields):
     """`routine` of the library changes the left long integer by the right one."""
 
-    type: Any
-    routine: Any
-    left: Any
-    right: Any
+    type: object
+    routine: object
+    left: object
+    right: object
 
 
 class TextValue(Fields):
     """A text in quotes."""
 
-    type: Any
+    type: object
     text: str
 
 
 class Load(Fields):
     """The value at a location."""
 
-    type: Any
-    location: Any
+    type: object
+    location: object
 
 
 class Operation(Fields):
     """An instruction, with operands of its own, on values that are pushed."""
 
-    type: Any
-    instruction: Tuple
-    operands: List[Any]
+    type: object
+    instruction: tuple
+    operands: list[object]
 
 
 class Call(Fields):
     """A call; of a function its value."""
 
-    type: Any
-    routine: Any
-    arguments: List[Any]
+    type: object
+    routine: object
+    arguments: list[object]
 
 
 class Among(Fields):
     """VALUE IN [PARTS]: each part is a value, or two."""
 
-    type: Any
-    value: Any
-    parts: List[Tuple[Any, Optional[Any]]]
+    type: object
+    value: object
+    parts: list[tuple[object, object | None]]
 
 
 class Concatenation(Fields):
-    type: Any
-    parts: List[Any]
+    type: object
+    parts: list[object]
 
 
 class Copied(Fields):
     """COPY(TEXT, AT, COUNT)."""
 
-    type: Any
-    text: Any
-    at: Any
-    count: Any
+    type: object
+    text: object
+    at: object
+    count: object
 
 
 class SetValue(Fields):
     """[PARTS]: each part is a value, or two."""
 
-    type: Any
-    parts: List[Tuple[Any, Optional[Any]]]
+    type: object
+    parts: list[tuple[object, object | None]]
 
 
 class SetOperation(Fields):
     """`routine` of the library changes the left set by the right one."""
 
-    type: Any
-    routine: Any
-    left: Any
-    right: Any
+    type: object
+    routine: object
+    left: object
+    right: object
 
 
 # Addresses, which are pushed as arguments
 
 class Address(Fields):
-    location: Any
+    location: object
 
 
 class ByteAddress(Fields):
     """A base and an index, two words."""
 
-    location: Any
+    location: object
 
 
 class StringAddress(Fields):
-    value: Any
+    value: object
 
 
 class LongFitted(Fields):
     """The address of a long integer in a room of its own of a type; `routine` puts it there."""
 
-    routine: Any
-    value: Any
-    kind: Any
+    routine: object
+    value: object
+    kind: object
 
 
 class Select(Fields):
     """Behind the arguments of a call: what it writes goes to a file, whose number this is. It
     pushes nothing."""
 
-    variable: Any
-    number: Any
+    variable: object
+    number: object
 
 
 class LongAddress(Fields):
     """The address of a long integer of all digits."""
 
-    value: Any
+    value: object
 
 
 class SetAddress(Fields):
     """The address of a set of so many words."""
 
-    value: Any
+    value: object
     words: int
 
 
 # Locations
 
 class VariableAt(Fields):
-    type: Any
-    variable: Any
+    type: object
+    variable: object
 
 
 class Target(Fields):
     """What a pointer points to."""
 
-    type: Any
-    pointer: Any
+    type: object
+    pointer: object
 
 
 class ElementAt(Fields):
-    type: Any
-    base: Any
-    index: Any
+    type: object
+    base: object
+    index: object
 
 
 class CharacterAt(Fields):
     """A character of a string."""
 
-    type: Any
-    base: Any
-    index: Any
+    type: object
+    base: object
+    index: object
     is_checked: bool
 
 
 class FieldAt(Fields):
-    type: Any
-    base: Any
-    field: Any
+    type: object
+    base: object
+    field: object
 
 
 class WindowAt(Fields):
     """The window of a file: the words behind its number."""
 
-    type: Any
-    base: Any
+    type: object
+    base: object
 
 
 class Opening(Fields):
     """A record that a WITH opens, once for its whole statement. The generator says where it is:
     at a place of a frame, or where an address is kept."""
 
-    type: Any
-    base: Any
-    temporary: Any = None
+    type: object
+    base: object
+    temporary: object = None
     is_frame: bool = False
 
 
 class Opened(Fields):
-    type: Any
+    type: object
     opening: Opening
 
 
 # Statements
 
 class Block(Fields):
-    statements: List[Any]
+    statements: list[object]
 
 
 class Assign(Fields):
     """Stores a value of one word, or a REAL."""
 
     place: Place
-    location: Any
-    value: Any
+    location: object
+    value: object
 
 
 class MoveWords(Fields):
     """Copies words from an address to a location."""
 
     place: Place
-    location: Any
-    source: Any
+    location: object
+    source: object
     words: int
 
 
@@ -257,7 +257,7 @@ class StoreText(Fields):
     """Stores a text in quotes in an array of characters, or with its length in a string."""
 
     place: Place
-    location: Any
+    location: object
     text: str
 
 
@@ -272,7 +272,7 @@ class Perform(Fields):
     """Pushes nothing that stays: a call of a procedure, or an instruction."""
 
     place: Place
-    value: Any
+    value: object
 
 
 class Transfer(Fields):
@@ -280,55 +280,55 @@ class Transfer(Fields):
 
     place: Place
     procedure: int
-    values: List[Any]
+    values: list[object]
 
 
 class Exit(Fields):
     """EXIT(ROUTINE)."""
 
     place: Place
-    routine: Any
+    routine: object
 
 
 class If(Fields):
     place: Place
-    test: Any
-    yes: Any
-    no: Any
+    test: object
+    yes: object
+    no: object
 
 
 class While(Fields):
     place: Place
-    test: Any
-    body: Any
+    test: object
+    body: object
 
 
 class Repeat(Fields):
     place: Place
-    body: Any
-    test: Any
+    body: object
+    test: object
     until: Place
 
 
 class For(Fields):
     place: Place
-    location: Any
-    start: Any
-    limit: Any
+    location: object
+    start: object
+    limit: object
     is_down: bool
-    body: Any
+    body: object
 
 
 class Case(Fields):
     place: Place
-    selector: Any
-    branches: List[Tuple[List[int], Any]]
+    selector: object
+    branches: list[tuple[list[int], object]]
 
 
 class With(Fields):
     place: Place
-    openings: List[Opening]
-    body: Any
+    openings: list[Opening]
+    body: object
 
 
 class Goto(Fields):
@@ -339,4 +339,4 @@ class Goto(Fields):
 class Labelled(Fields):
     place: Place
     label: int
-    statement: Any
+    statement: object

@@ -4,7 +4,7 @@ A word has 16 bits, and an address of a word is that of its low byte. In a packe
 values of few bits share a word, the first in the lowest bits; none lies in two words.
 """
 
-from typing import Any, Dict, Optional
+from __future__ import annotations
 
 from pcode.fields import Fields
 
@@ -69,7 +69,7 @@ class Array:
 class Field(Fields):
     """A field: its word in the record, and of a packed one its bits."""
 
-    type: Any
+    type: object
     word: int
     bits: int = WORD
     right: int = 0  # the lowest of its bits
@@ -84,7 +84,7 @@ class Record:
 
     def __init__(self, is_packed):
         self.is_packed = is_packed
-        self.fields: Dict[str, Field] = {}
+        self.fields: dict[str, Field] = {}
         self.size = 0
         self.name = None
 
@@ -177,7 +177,7 @@ def wrap(value):
     return (value + 32768) % 65536 - 32768
 
 
-def is_ordinal(kind, host: Optional[Ordinal] = None):
+def is_ordinal(kind, host: Ordinal | None = None):
     return isinstance(kind, Ordinal) and (host is None or kind.host is host)
 
 

@@ -1,8 +1,5 @@
 """Checks expressions."""
 
-import operator
-from functools import cached_property
-
 from ..parsing import syntax
 from ..parsing.expressions import PARENTHESES
 from . import tree
@@ -30,26 +27,20 @@ def divided(left, right):
 
 FOLDED = {"+": lambda a, b: a + b, "-": lambda a, b: a - b, "*": lambda a, b: a * b,
           "DIV": divided, "MOD": lambda a, b: a - b * divided(a, b)}
-JOINED = {"AND": operator.and_, "OR": operator.or_}
-COMPARED = {"=": operator.eq, "<>": operator.ne, "<": operator.lt, "<=": operator.le,
-            ">": operator.gt, ">=": operator.ge}
+JOINED = {"AND": lambda a, b: a & b, "OR": lambda a, b: a | b}
+COMPARED = {"=": lambda a, b: a == b, "<>": lambda a, b: a != b, "<": lambda a, b: a < b,
+            "<=": lambda a, b: a <= b, ">": lambda a, b: a > b, ">=": lambda a, b: a >= b}
+# The method that makes the value of each node; all others are variables.
+VALUES = {syntax.Number: "number", syntax.Text: "quoted", syntax.LongNumber: "long_number",
+          syntax.Real: "real_number", syntax.Name: "named", syntax.Call: "call_value",
+          syntax.Operation: "operation", syntax.Unary: "unary", syntax.SetOf: "set_of"}
 
 
 class Values(LongValues):
     def value(self, node):
         """The checked tree of an expression."""
-        make = self.value_makers.get(type(node))
-        return make(node) if make else self.loaded(self.location(node))
-
-    @cached_property
-    def value_makers(self):
-        return {
-            syntax.Number: self.number, syntax.Text: lambda it: self.text(it.value),
-            syntax.LongNumber: self.long_number,
-            syntax.Real: lambda it: tree.RealValue(REAL, self.constant(it).value),
-            syntax.Name: self.named, syntax.Call: self.call_value,
-            syntax.Operation: self.operation, syntax.Unary: self.unary, syntax.SetOf: self.set_of,
-        }
+        make = VALUES.get(type(node))
+        return getattr(self, make)(node) if make else self.loaded(self.location(node))
 
     def loaded(self, location):
         return tree.Load(location.type, location)
@@ -58,6 +49,12 @@ class Values(LongValues):
         if node.value > 32767:
             return self.long_number(node)
         return tree.Constant(INTEGER, node.value)
+
+    def real_number(self, node):
+        return tree.RealValue(REAL, self.constant(node).value)
+
+    def quoted(self, node):
+        return self.text(node.value)
 
     def text(self, text):
         """A text in quotes: of one character a CHAR."""

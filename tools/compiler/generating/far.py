@@ -5,8 +5,6 @@ Where a procedure has more of them, the rest is reached in two steps: the number
 pushed, and a jump leads to an XJP behind the code, whose words lead to any place in front of it.
 """
 
-from collections import Counter
-
 from pcode.encoder import Encoder
 from pcode.faults import Fault
 from pcode.instructions import JUMP, MOST_FAR
@@ -27,7 +25,7 @@ def spread(procedure):
         if excess <= 0:
             return made
         # Two steps take more code, so that more jumps may become far: then more labels are chosen.
-        rarest = [target for target, _ in uses.most_common()[::-1]][:excess + 1]
+        rarest = sorted(uses, key=uses.get, reverse=True)[::-1][:excess + 1]
         labels = [label for target in rarest for label in names[target]]
         fresh = [it for it in labels if it in procedure.labels and it not in chosen]
         if not fresh:
@@ -41,7 +39,7 @@ def far_targets(procedure):
     encoder.offsets = dict.fromkeys(procedure.labels, 0)
     encoder.code()
     places = {label: procedure.lines[it.index].at for label, it in procedure.labels.items()}
-    uses, names = Counter(), {}
+    uses, names = {}, {}
     for line in procedure.lines:
         if line.name not in JUMP and line.name != "XJP":
             continue
@@ -49,7 +47,7 @@ def far_targets(procedure):
         label = line.operands[2 if is_case else 0]
         after = line.at + (7 + (line.at + 1) % 2 if is_case else 2)  # behind the UJP of an XJP
         if not after <= places[label] <= after + 127:
-            uses[places[label]] += 1
+            uses[places[label]] = uses.get(places[label], 0) + 1
             names.setdefault(places[label], set()).add(label)
     return uses, {target: sorted(some) for target, some in names.items()}
 

@@ -1,7 +1,5 @@
 """The procedures of a code file, of the routines of a checked program."""
 
-from collections import Counter
-
 from pcode.faults import Fault
 from pcode.parts import Procedure
 
@@ -88,7 +86,7 @@ class Generator:
         nodes = {routine: list(nodes_of(routine.body)) for routine in self.routines}
         self.exits, self.asked = exits_of(nodes)
         stored = stored_texts(it for own in nodes.values() for it in own)
-        self.texts = Texts(texts or Counter(), stored)
+        self.texts = Texts(texts or {}, stored)
 
     def procedures(self):
         """The procedures, in the order of their numbers."""

@@ -1,7 +1,6 @@
 """Locations: what is pushed for one, and how it is loaded and stored then."""
 
-from functools import cached_property
-from typing import Any
+from __future__ import annotations
 
 from pcode.fields import Fields
 
@@ -12,7 +11,7 @@ from .code import ADDRESSES, LOADS, STORES, Code
 class Frame(Fields):
     """A word of a frame: nothing is pushed."""
 
-    routine: Any
+    routine: object
     offset: int
 
     def moved(self, words):
@@ -35,6 +34,12 @@ class Bytes:
 class Packed:
     """A packed pointer is pushed: an address, a width and the lowest bit."""
 
+# The method for each location.
+PLACES = {tree.VariableAt: "variable_place", tree.Opened: "opened_place",
+          tree.Target: "target_place", tree.FieldAt: "field_place",
+          tree.ElementAt: "element_place", tree.CharacterAt: "character_place",
+          tree.WindowAt: "window_place"}
+
 
 class Places:
     """The part of the generator for locations. `code` is that of the procedure."""
@@ -43,16 +48,10 @@ class Places:
 
     def place(self, location):
         """Pushes what is needed for a location, and answers which place it is."""
-        return self.placers[type(location)](location)
+        return getattr(self, PLACES[type(location)])(location)
 
-    @cached_property
-    def placers(self):
-        return {
-            tree.VariableAt: self.variable_place, tree.Opened: self.opened_place,
-            tree.Target: self.target_place, tree.FieldAt: self.field_place,
-            tree.ElementAt: self.element_place, tree.CharacterAt: self.character_place,
-            tree.WindowAt: lambda it: self.place(it.base).moved(1),
-        }
+    def window_place(self, location):
+        return self.place(location.base).moved(1)
 
     def variable_place(self, location):
         variable = location.variable

@@ -1,7 +1,5 @@
 """Statements."""
 
-from functools import cached_property
-
 from ..checking import tree
 from ..checking.types import REAL
 from .blocks import Blocks
@@ -17,24 +15,24 @@ SCRATCH, FEW = 80, 3
 WRITTEN = {"PUTTEXT": "SCRATCH", "PUTWORDS": "SYMBOLS"}
 WRITING = 8  # bytes of what writes a text beside its words, about
 
+# The method for each statement.
+DONE = {tree.Block: "block", tree.Assign: "assign", tree.MoveWords: "move_words",
+        tree.StoreText: "store_text", tree.WriteText: "write_text", tree.Perform: "perform",
+        tree.Transfer: "transfer", tree.Exit: "exit", tree.If: "if_statement",
+        tree.While: "while_statement", tree.Repeat: "repeat", tree.For: "for_statement",
+        tree.Case: "case", tree.With: "with_statement", tree.Goto: "goto",
+        tree.Labelled: "labelled"}
+
 
 class Statements(Blocks):
     def statement(self, node):
         if not isinstance(node, tree.Block):
             self.code.place = node.place
-        self.with_temporaries(self.doers[type(node)], node)
+        self.with_temporaries(getattr(self, DONE[type(node)]), node)
         assert self.code.depth == 0, "a statement leaves words on the evaluation stack"
 
-    @cached_property
-    def doers(self):
-        return {
-            tree.Block: self.block, tree.Assign: self.assign, tree.MoveWords: self.move_words,
-            tree.StoreText: self.store_text, tree.WriteText: self.write_text,
-            tree.Perform: lambda it: self.push(it.value), tree.Transfer: self.transfer,
-            tree.Exit: self.exit, tree.If: self.if_statement, tree.While: self.while_statement,
-            tree.Repeat: self.repeat, tree.For: self.for_statement, tree.Case: self.case,
-            tree.With: self.with_statement, tree.Goto: self.goto, tree.Labelled: self.labelled,
-        }
+    def perform(self, node):
+        self.push(node.value)
 
     def with_temporaries(self, make, node):
         """Makes the code of a node. The temporaries that it takes are free again behind."""

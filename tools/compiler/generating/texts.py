@@ -1,8 +1,6 @@
 """Texts that are known: one that is written or stored again stands in a procedure of its own, and
 if those that are written are to be packed three characters stand in a word."""
 
-from collections import Counter
-
 from ..checking import tree
 from ..checking.symbols import Routine, Variable
 from ..checking.types import String
@@ -70,18 +68,26 @@ def words_of(text):
 def stored_texts(nodes):
     """How often each text is stored by nodes of a checked tree: in a variable, or where a string is
     pushed."""
-    counts = Counter()
+    counts = {}
     for node in nodes:
         if isinstance(node, tree.StoreText):
-            counts[node.text] += 1
+            texts = [node.text]
         elif isinstance(node, tree.Concatenation):
-            counts.update(with_length(it.text) for it in node.parts
-                          if isinstance(it, tree.TextValue))
-        elif isinstance(node, (tree.StringAddress, tree.Copied)):
-            value = node.value if isinstance(node, tree.StringAddress) else node.text
-            if isinstance(value, tree.TextValue):
-                counts[with_length(value.text)] += 1
+            texts = known_strings(node.parts)
+        elif isinstance(node, tree.StringAddress):
+            texts = known_strings([node.value])
+        elif isinstance(node, tree.Copied):
+            texts = known_strings([node.text])
+        else:
+            continue
+        for text in texts:
+            counts[text] = counts.get(text, 0) + 1
     return counts
+
+
+def known_strings(values):
+    """The texts among values that are strings, each with its length."""
+    return [with_length(it.text) for it in values if isinstance(it, tree.TextValue)]
 
 
 class Texts:
@@ -97,7 +103,7 @@ class Texts:
         The program has so many procedures now."""
         text = node.text
         if text not in self.writers:
-            saved = (self.written[text] - 1) * (size - CALL) - PROCEDURE
+            saved = (self.written.get(text, 0) - 1) * (size - CALL) - PROCEDURE
             is_new = saved > 0 and count < MOST_ROUTINES
             self.writers[text] = self.made(node) if is_new else None
         return self.writers[text]
@@ -111,7 +117,7 @@ class Texts:
         smaller. A text of one word has none, since it takes a step or two where it stands."""
         if text not in self.storers:
             size = cost(words) + STORE
-            saved = (self.stored[text] - 1) * (size - CALL) - CALL - ADDRESS - PROCEDURE
+            saved = (self.stored.get(text, 0) - 1) * (size - CALL) - CALL - ADDRESS - PROCEDURE
             is_new = len(words) > 1 and saved > 0 and count < MOST_ROUTINES
             self.storers[text] = self.storing(text, place) if is_new else None
         return self.storers[text]

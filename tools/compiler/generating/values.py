@@ -1,7 +1,5 @@
 """Values, and calls."""
 
-from functools import cached_property
-
 from ..checking import tree
 from ..checking.reals import words_of as words_of_real
 from ..checking.types import REAL
@@ -10,26 +8,40 @@ from .texts import words_of
 
 EQUAL_JUMPS = {"EQUI": "EFJ", "NEQI": "NFJ"}  # they jump where it does not hold
 
+# The method for each value, and for what is pushed as an argument.
+PUSHED = {tree.Constant: "constant", tree.Load: "load_value", tree.RealValue: "real_value",
+          tree.Operation: "operation", tree.Call: "call", tree.Among: "among",
+          tree.Address: "address", tree.ByteAddress: "byte_address",
+          tree.StringAddress: "string_value", tree.SetAddress: "set_value",
+          tree.TextValue: "text_value", tree.Select: "select",
+          tree.LongAddress: "long_value", tree.LongFitted: "long_fitted"}
+
 
 class Values(Places):
     def push(self, node):
         """Pushes a value, or the address that an argument is."""
-        self.pushers[type(node)](node)
+        getattr(self, PUSHED[type(node)])(node)
 
-    @cached_property
-    def pushers(self):
-        return {
-            tree.Constant: lambda it: self.code.number(it.value),
-            tree.Load: self.load_value, tree.RealValue: self.real_value,
-            tree.Operation: self.operation, tree.Call: self.call, tree.Among: self.among,
-            tree.Address: lambda it: self.push_address(self.place(it.location)),
-            tree.ByteAddress: lambda it: self.push_bytes(it.location),
-            tree.StringAddress: lambda it: self.string(it.value),
-            tree.SetAddress: lambda it: self.set_address(it.value, it.words),
-            tree.TextValue: lambda it: self.text(it.text),
-            tree.Select: self.select, tree.LongAddress: lambda it: self.long_address(it.value),
-            tree.LongFitted: self.long_fitted,
-        }
+    def constant(self, node):
+        self.code.number(node.value)
+
+    def address(self, node):
+        self.push_address(self.place(node.location))
+
+    def byte_address(self, node):
+        self.push_bytes(node.location)
+
+    def string_value(self, node):
+        self.string(node.value)
+
+    def set_value(self, node):
+        self.set_address(node.value, node.words)
+
+    def long_value(self, node):
+        self.long_address(node.value)
+
+    def text_value(self, node):
+        self.text(node.text)
 
     def load_value(self, node):
         place = self.place(node.location)

@@ -51,7 +51,7 @@ class Reader:
                 before = self.tokens[self.at - 1]
                 column = before.place.column + len(before.written)
                 self.refuse(f"; is wanted behind {before}{why}",
-                            before.place._replace(column=column))
+                            before.place.at_column(column))
             self.refuse(f"{SHOWN.get(kind, kind)} is wanted{why}, and not {self.now}")
         return self.next()
 

@@ -3,7 +3,7 @@
 Each node has the place where it begins, or that of the sign that it is about.
 """
 
-from typing import Any, List, Optional, Tuple
+from __future__ import annotations
 
 from pcode.fields import Fields
 
@@ -65,15 +65,15 @@ class Argument(Node):
     """VALUE or, in WRITE, VALUE:WIDTH, and of a REAL VALUE:WIDTH:PLACES."""
 
     value: Node
-    width: Optional[Node] = None
-    places: Optional[Node] = None
+    width: Node | None = None
+    places: Node | None = None
 
 
 class Call(Node):
     """NAME(ARGUMENTS). A call without them is a Name."""
 
     name: Name
-    arguments: List[Argument]
+    arguments: list[Argument]
 
 
 class Operation(Node):
@@ -92,13 +92,13 @@ class Unary(Node):
 class SetOf(Node):
     """[PARTS]: each a value, or two for all from the one to the other."""
 
-    parts: List[Tuple[Node, Optional[Node]]]
+    parts: list[tuple[Node, Node | None]]
 
 
 # Statements. An empty one is None.
 
 class Compound(Node):
-    statements: List[Node]
+    statements: list[Node]
 
 
 class Assign(Node):
@@ -112,17 +112,17 @@ class CallStatement(Node):
 
 class If(Node):
     test: Node
-    yes: Optional[Node]
-    no: Optional[Node]
+    yes: Node | None
+    no: Node | None
 
 
 class While(Node):
     test: Node
-    body: Optional[Node]
+    body: Node | None
 
 
 class Repeat(Node):
-    statements: List[Node]
+    statements: list[Node]
     test: Node
 
 
@@ -131,17 +131,17 @@ class For(Node):
     start: Node
     limit: Node
     is_down: bool
-    body: Optional[Node]
+    body: Node | None
 
 
 class Case(Node):
     selector: Node
-    branches: List[Tuple[List[Node], Optional[Node]]]
+    branches: list[tuple[list[Node], Node | None]]
 
 
 class With(Node):
-    records: List[Node]
-    body: Optional[Node]
+    records: list[Node]
+    body: Node | None
 
 
 class Goto(Node):
@@ -150,7 +150,7 @@ class Goto(Node):
 
 class Labelled(Node):
     label: int
-    statement: Optional[Node]
+    statement: Node | None
 
 
 # Types
@@ -160,7 +160,7 @@ class StringType(Node):
 
 
 class Enumeration(Node):
-    names: List[Name]
+    names: list[Name]
 
 
 class Subrange(Node):
@@ -170,26 +170,26 @@ class Subrange(Node):
 
 class ArrayType(Node):
     is_packed: bool
-    index: Any
-    element: Any
+    index: object
+    element: object
 
 
 class FieldGroup(Node):
-    names: List[Name]
-    type: Any
+    names: list[Name]
+    type: object
 
 
 class Variants(Node):
     """CASE TAG: TYPE OF LABELS: (FIELDS); .."""
 
-    tag: Optional[Name]
+    tag: Name | None
     type: Node
-    branches: List[Tuple[List[Node], "FieldList"]]
+    branches: list[tuple[list[Node], FieldList]]
 
 
 class FieldList(Node):
-    groups: List[FieldGroup]
-    variants: Optional[Variants]
+    groups: list[FieldGroup]
+    variants: Variants | None
 
 
 class RecordType(Node):
@@ -204,7 +204,7 @@ class SetType(Node):
 class FileType(Node):
     """FILE OF ELEMENT; without one FILE, of blocks."""
 
-    element: Any
+    element: object
 
 
 class PointerType(Node):
@@ -214,7 +214,7 @@ class PointerType(Node):
 class AbsentType(Node):
     """A type that has a fault, or is not there, which has been told."""
 
-    feature: Optional[str]
+    feature: str | None
 
 
 # Declarations
@@ -238,13 +238,13 @@ class TypesEnd(Node):
 
 
 class VarDeclaration(Node):
-    names: List[Name]
+    names: list[Name]
     type: Node
 
 
 class ParameterGroup(Node):
     is_var: bool
-    names: List[Name]
+    names: list[Name]
     type: Node
 
 
@@ -253,13 +253,13 @@ class RoutineDeclaration(Node):
 
     name: Name
     is_function: bool
-    parameters: Optional[List[ParameterGroup]]
-    result: Optional[Node]
-    block: Optional["Block"]
+    parameters: list[ParameterGroup] | None
+    result: Node | None
+    block: Block | None
 
 
 class Block(Node):
-    declarations: List[Node]
+    declarations: list[Node]
     body: Compound
 
 
@@ -267,16 +267,16 @@ class Unit(Node):
     """A UNIT. The procedures of its interface have no block there."""
 
     name: Name
-    uses: List[Name]
-    interface: List[Node]
-    implementation: List[Node]
-    body: Optional[Compound]
+    uses: list[Name]
+    interface: list[Node]
+    implementation: list[Node]
+    body: Compound | None
     has_files: bool = False
 
 
 class Program(Node):
     name: Name
-    uses: List[Name]
-    units: List[Unit]  # that stand in its text
+    uses: list[Name]
+    units: list[Unit]  # that stand in its text
     block: Block
     has_files: bool = False

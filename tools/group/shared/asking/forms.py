@@ -17,7 +17,8 @@ def node_of(view, node):
     return {
         "node": node, "answered": True, "process": it.process, "pid": it.pid, "leads": it.leads,
         "hears_leader": ballot(it.leader), "starts": it.starts, "promised": ballot(it.promised),
-        "places": it.places, "console_bytes": it.console, "program_ended": it.end is not None,
+        "places": it.places, "known_front": it.front, "keys_waiting": it.waiting,
+        "console_bytes": it.console, "program_ended": it.end is not None,
         "execution_error": it.end or None, "hears": sorted(it.heard),
         "fault": it.fault and {"time": it.fault[0], "text": it.fault[1]},
         "version": it.version, "program_sum": it.program, "code_sum": it.code, "time": it.now,
@@ -42,6 +43,8 @@ METRICS = (
     ("node_promised_round", "the round of the ballot that it has promised",
      lambda it: it.promised and it.promised.round),
     ("node_places", "the places of the session up to its last vote", lambda it: it.places),
+    ("node_known_front", "the first place that the node has not learned", lambda it: it.front),
+    ("node_keys_waiting", "how many typed keys wait at the node", lambda it: it.waiting),
     ("node_console_bytes", "the length of its console", lambda it: it.console),
     ("node_program_ended", "whether its program has ended", lambda it: it.end is not None),
     ("node_hears", "how many other supervisors its own hears", lambda it: len(it.heard)),

@@ -18,11 +18,12 @@ MOST_TOLD = 200
 # as the supervisor hears; `leader` the ballot of the leader that it hears; `heard` has for each
 # other node how long ago its supervisor was heard, in seconds, and what its record had promised.
 # `console` is the length of the console, `end` how the program has ended, and `fault` a time and a
-# text. `version` and the checksums are of the program, and of it and the code file.
+# text. `version` and the checksums are of the program, and of it and the code file. `front` is the
+# first place that the node has not learned, and `waiting` how many keys wait at it.
 State = collections.namedtuple(
     "State", "node size now process pid starts promised places leads leader heard console end "
-    "fault version program code silent",
-    defaults=(None,) * 16,
+    "fault version program code silent front waiting",
+    defaults=(None,) * 18,
 )
 
 
@@ -63,6 +64,7 @@ def answer(session, nonce, it, sign=None):
         f"size {it.size} silent {text_of(it.silent)}",
         f"record {text_of(it.starts)} {text_of(it.promised)} {text_of(it.places)}",
         f"leader {text_of(it.leads)} {text_of(it.leader)}",
+        f"known {text_of(it.front)} {text_of(it.waiting)}",
         *(f"heard {node} {text_of(ago)} {text_of(promised)}"
           for node, (ago, promised) in sorted((it.heard or {}).items())),
         f"console {text_of(it.console)}",
@@ -87,6 +89,7 @@ LINES = {
     "size": (rf"([1-9]) silent {SECONDS}", "size silent"),
     "record": (rf"{NUMBER} {BALLOT} {NUMBER}", "starts promised places"),
     "leader": (rf"(-|[01]) {BALLOT}", "leads leader"),
+    "known": (rf"{NUMBER} {NUMBER}", "front waiting"),
     "console": (NUMBER, "console"),
     "sums": (r"(-|[0-9a-f]{16}) (-|[0-9a-f]{16})", "program code"),
     "now": (SECONDS, "now"),

@@ -77,6 +77,7 @@ class View:
         process = {"up": f"up, process {it.pid}", "down": "down", None: "unknown",
                    "held": f"does not move, process {it.pid}"}[it.process]
         parts = [f"node {node}: {process}", self.part_of_leader(it), part_of_record(it)]
+        parts.append(part_of_known(it))
         parts.append("console unknown" if it.console is None else f"console {it.console} bytes")
         if it.end is not None:
             parts.append("its program has ended" + (f": {it.end}" if it.end else ""))
@@ -116,3 +117,9 @@ def part_of_record(it):
         return "record unknown"
     places = "-" if it.places is None else it.places
     return f"starts {it.starts} promised {text_of_ballot(it.promised)} places {places}"
+
+
+def part_of_known(it):
+    """How far the node knows the session, as its log has said."""
+    front = "unknown" if it.front is None else it.front
+    return f"known front {front}, keys waiting {'unknown' if it.waiting is None else it.waiting}"

@@ -46,6 +46,8 @@ class Follower:
         # sent long ago.
         self.rank, self.waits, self.since, self.recalled = None, False, 0, None
         self.is_late = False
+        # The messages that are kept, to all and to this node, by their content.
+        self.sent_to_all, self.sent_to_it = {}, {}
         self.torn = []  # the processes behind which a line was cut off
         self.after = self.take()
         self.next_process()
@@ -56,12 +58,8 @@ class Follower:
     def where(self, call=None):
         return f"{self.process.path}:{(call or self.process).at}"
 
-    def advance(self):
-        """Goes on to the next call of the process."""
-        self.done += 1
-        self.move()
-
     def move(self):
+        """Goes on to the next call of the process."""
         self.last, call = self.call, self.after
         if type(call) is Call:
             self.call = call

@@ -69,7 +69,8 @@ class Group:
         if kind == "start":
             node = self.rules(event.node, self.size, self.stored[event.node])
         before = node.mark()
-        node.learner.news = []
+        if node.learner.news:
+            node.learner.news = []
         try:
             if kind == "deliver":
                 change, sends = node.hear(self.sent[event.number].message)
@@ -87,8 +88,8 @@ class Group:
             has_changed = True
         self.nodes[event.node] = node
         numbers = self.send(sends) if sends else NONE
-        return Happened(
-            change, numbers, node.learner.news, None, has_changed, has_changed or bool(sends))
+        learned = node.learner.news or ()
+        return Happened(change, numbers, learned, None, has_changed, has_changed or bool(sends))
 
     def send(self, sends):
         """Sends these messages. Returns their numbers."""

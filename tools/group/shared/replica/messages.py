@@ -66,9 +66,9 @@ class Messages:
         self.older.write(entries)
         self.recalled.clear()
 
-    def is_kept(self, node, data):
-        """Whether such a message to this node is among those that are kept."""
-        return data in self.to_all or data in self.numbers[node]
+    def kept_for(self, node):
+        """The messages that are kept, by their content: those to all, and those to this node."""
+        return self.to_all, self.numbers[node]
 
     def number_of(self, node, data):
         """The number of the kept message that a node has heard now. Of equal ones it is the last

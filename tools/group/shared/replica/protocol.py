@@ -132,8 +132,8 @@ class Protocol:
 
     def mark(self):
         """What differs after a message that was news."""
-        asked = self.proposer and (self.proposer.ballot, self.proposer.changes)
-        return self.learner.changes, self.remembered, asked
+        asked = self.proposer
+        return self.learner.changes, self.remembered, asked, asked and asked.changes
 
     def message(self, kind, **fields):
         return Message(kind, self.number, fields)
@@ -283,6 +283,8 @@ class Protocol:
 
     def on_ask(self, sender, fields):
         learner, begin = self.learner, fields["place"]
+        if begin >= learner.front:
+            return None, []
         end = min(begin + MOST_TOLD, learner.front)
         tells = [(it, learner.learned[it]) for it in range(begin, end)]
         return None, [(sender, self.message("tell", place=at, value=it)) for at, it in tells]

@@ -86,8 +86,9 @@ class Replay:
 
     def follow_steps(self):
         prints, moments, every = Prints(), 0, 1
+        are_kept = not self.following.late
         for step in self.following.steps():
-            self.steps.add(step, is_kept=not self.following.late)
+            self.steps.add(step, are_kept)
             if step[1].learned:
                 self.chosen.update(step[1].learned)
             if step[2] is not None and self.steps.count % OFTEN:

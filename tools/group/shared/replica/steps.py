@@ -19,6 +19,7 @@ CODES = {
         (kind, outcome) for outcome in (None, "failold", "failnew") for kind in KINDS
     )
 }
+DONE = {kind: CODES[kind, None] for kind in KINDS}
 EVENTS = {code: it for it, code in CODES.items()}
 LINES = {code: form_of(*it) + "\n" for it, code in CODES.items()}
 # Of an event with these marks the node has changed; something came of it.
@@ -42,14 +43,17 @@ class Steps:
         self.count += 1
         if not is_kept:
             return
-        (kind, node, number, outcome), (_, numbers, _, _, has_changed, is_news), _ = step
-        sends = len(numbers)
-        marks = CHANGED * has_changed + NEWS * is_news
-        self.rest += ENTRY.pack(CODES[kind, outcome], node, marks, sends, number or 0)
-        if sends:
-            self.needed += bytes(sends)
-        if is_news and kind == "deliver":
-            self.needed[number] = 1
+        (kind, node, number, outcome), happened, _ = step
+        code = DONE[kind] if outcome is None else CODES[kind, outcome]
+        if happened.is_news:
+            sends, marks = len(happened.sends), NEWS + CHANGED * happened.has_changed
+            if sends:
+                self.needed += bytes(sends)
+            if kind == "deliver":
+                self.needed[number] = 1
+        else:
+            sends = marks = 0
+        self.rest += ENTRY.pack(code, node, marks, sends, number or 0)
         if not self.count % PIECE:
             self.flush()
 

@@ -18,6 +18,8 @@ SAVING = {b"start": "start", b"campaign": "campaign"}
 # What was read of HEX last: the same datagram stands in the traces of all that send and hear it. So
 # many are kept, of at most so many digits.
 KNOWN, MOST_KNOWN, MOST_DIGITS = {}, 8192, 1024
+# The numbers of one byte, as they are written.
+BYTES = {str(it).encode("ascii"): it for it in range(256)}
 
 
 class Bad(Exception):
@@ -31,14 +33,12 @@ class Call:
     `has_failed` true where its save has failed. `at` is its line, and `time` the milliseconds
     there, or None."""
 
-    __slots__ = (
-        "kind", "at", "time", "data", "source", "number", "byte", "sends", "is_done", "has_failed",
-    )
+    # What a call has not, or not otherwise: there are millions, and few have all of it.
+    source = number = byte = None
+    sends, is_done, has_failed = (), True, False
 
-    def __init__(self, kind, at, time, data=None, source=None, number=None, byte=None):
-        self.kind, self.at, self.time, self.data, self.source = kind, at, time, data, source
-        self.number, self.byte, self.sends = number, byte, ()
-        self.is_done, self.has_failed = True, False
+    def __init__(self, kind, at, time, data=None):
+        self.kind, self.at, self.time, self.data = kind, at, time, data
 
 
 class Process:
@@ -187,25 +187,26 @@ class Reader:
         self.call, self.begun, self.is_torn = None, None, False
         return left
 
-    def next_call(self, call):
+    def next_call(self, kind, data=None):
         """Notes a call, and returns the one before it. One that was begun before it and is not this
         one was refused, and changed nothing."""
         if self.process is None:
             self.must(False, "a line before that of a process")
-        before, self.call, self.begun = self.call, call, None
+        before, self.begun = self.call, None
+        self.call = Call(kind, self.at, self.time, data)
         return before
 
     def datagram_of(self, text):
         """The datagram that a line names, in HEX or by how many back it was written whole."""
         if self.recent is None:
-            return bytes_of_hex(text)
+            return KNOWN.get(text) or bytes_of_hex(text)
         if text[:1] == b"=":
             back = number_of(text[1:])
             if not 1 <= back <= len(self.recent):
                 self.must(False, f"the process has written {len(self.recent)} datagrams, "
                           f"and not {back}")
             return self.recent[-back]
-        data = bytes_of_hex(text)
+        data = KNOWN.get(text) or bytes_of_hex(text)
         self.recent.append(data)
         return data
 
@@ -225,17 +226,20 @@ class Reader:
     def on_start(self, rest):
         self.must(self.call is None, "a second start of a process")
         data = None if rest == b"-" else bytes_of_hex(rest)
-        return self.next_call(Call("start", self.at, self.time, data))
+        return self.next_call("start", data)
 
     def on_hear(self, rest):
         source, _, data = rest.partition(b" ")
         if not source:
             raise ValueError
-        return self.next_call(Call("hear", self.at, self.time, self.datagram_of(data), source))
+        before = self.next_call("hear", self.datagram_of(data))
+        self.call.source = source
+        return before
 
     def on_press(self, rest):
-        byte = self.byte_of(rest)
-        return self.next_call(Call("press", self.at, self.time, byte=byte))
+        byte, before = self.byte_of(rest), self.next_call("press")
+        self.call.byte = byte
+        return before
 
     def on_campaign(self, rest):
         return self.alone("campaign", rest)
@@ -246,18 +250,24 @@ class Reader:
     def alone(self, kind, rest):
         if rest:
             raise ValueError
-        return self.next_call(Call(kind, self.at, self.time))
+        return self.next_call(kind)
 
     def on_run(self, rest):
-        return self.next_call(Call("run", self.at, self.time, number=number_of(rest)))
+        number, before = number_of(rest), self.next_call("run")
+        self.call.number = number
+        return before
 
     def on_release(self, rest):
         number, _, byte = rest.partition(b" ")
         number, byte = number_of(number), self.byte_of(byte)
-        return self.next_call(Call("release", self.at, self.time, number=number, byte=byte))
+        before = self.next_call("release")
+        self.call.number, self.call.byte = number, byte
+        return before
 
     def byte_of(self, text):
-        byte = number_of(text)
+        byte = BYTES.get(text)
+        if byte is None:
+            byte = number_of(text)
         if byte > 255:
             self.must(False, f"byte {byte}")
         return byte
@@ -280,9 +290,9 @@ class Reader:
             raise ValueError
         is_begun = self.begun is not None and self.begun.kind == kind
         self.must(is_begun, f"a {kind} that was not begun has failed")
-        call = self.begun
-        call.has_failed = True
-        return self.next_call(call)
+        before, self.call, self.begun = self.call, self.begun, None
+        self.call.has_failed = True  # it was begun, so that there is a process
+        return before
 
     def on_end(self, rest):
         self.must(self.process, "a line before that of a process")

@@ -89,5 +89,5 @@ class Answers:
             leader is not None and leader.node == self.words.id and is_up, leader,
             {it: (now - heard.at, heard.promised) for it, heard in others if it != self.words.id},
             node.console.known_length(), node.end, node.fault, self.version, program, code,
-            float(self.words.silent),
+            float(self.words.silent), node.front, node.waiting,
         )

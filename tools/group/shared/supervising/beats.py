@@ -11,9 +11,9 @@ import time
 from ..asking.texts import ASK
 from ..files import Refused
 from ..record import Ballot
-from ..seen import said_in, text_of_said, took_of
+from ..seen import Said, said_in, text_of_said, took_of
 from ..words import text_of_address
-from .key import is_signed, signed
+from .key import is_signed, is_signed_shortly, signed, signed_shortly
 from .office import Beat
 
 # The most bytes of a datagram that is read.
@@ -25,6 +25,9 @@ MANY = 10
 BEAT = re.compile(
     rb"pgroup beat (\d{1,10}) ([1-9]) (\d{1,10}) (\d) (\d{1,8}\.\d{3}) ([01]) ([1-9]{0,9})"
 )
+# With a key and with nothing else to say: the same, a counter, and 32 digits of a tag.
+SHORT = re.compile(rb"(%s) (\d{1,20}) [0-9a-f]{32}" % BEAT.pattern)
+TAKES_SHORT = "short"
 
 
 def text_of_beat(it):
@@ -45,12 +48,20 @@ def beat_of(data):
     return Beat(session, node, promised, float(match[5]), match[6] == b"1", hears)
 
 
+def short_in(data):
+    """What the short form of a heartbeat says, as if it stood in a longer datagram, or None."""
+    match = SHORT.fullmatch(data)
+    return match and Said(int(match[2]), int(match[3]), int(match[9]), [match[1]])
+
+
 class Beats:
     """The socket of the supervisor of node `me`, at the address of its place in the list.
 
     A heartbeat is one line. What else is told follows in a datagram of its own, `pgroup seen`,
     which supervisors of earlier versions pass over. With a key the heartbeat stands in that
-    datagram, which is signed, and what comes unsigned or once more counts for nothing."""
+    datagram, which is signed, and what comes unsigned or once more counts for nothing. If there is
+    nothing else to say, the heartbeat has a short form of its own, for those who say that they take
+    it: supervisors up to 0.13.0 do not."""
 
     def __init__(self, session, me, addresses, key=None):
         self.session, self.me, self.addresses, self.key = session, me, addresses, key
@@ -58,6 +69,7 @@ class Beats:
         # The counter of the last datagram that was sent, and of the last that was taken of each
         # node. Whether one came whose counter is too small: its sender has to learn of that.
         self.counter, self.took, self.is_behind = 0, {}, False
+        self.short = set()  # the nodes whose supervisors take the short form
         # Of each node, how many datagrams came since the last that was signed; and of which ones
         # that was said.
         self.unsigned, self.strangers = collections.Counter(), set()
@@ -88,25 +100,29 @@ class Beats:
 
     def send(self, beat, lines=()):
         """Sends the heartbeat, and these lines, if there are any."""
-        line = text_of_beat(beat)
-        datagrams = [] if self.key else [line]
-        if lines or self.key:
-            datagrams.append(self.said(line, lines))
-        for address in self.nodes:
-            for data in datagrams:
+        line, forms = text_of_beat(beat), {}
+        # It only grows, over restarts too, whatever the clock does: see `note_took`.
+        self.counter = max(self.counter + 1, time.time_ns())
+        for address, node in self.nodes.items():
+            is_short = not lines and node in self.short
+            if is_short not in forms:
+                forms[is_short] = self.datagrams(line, lines, is_short)
+            for data in forms[is_short]:
                 try:
                     self.socket.sendto(data, address)
                 except OSError:
                     pass  # What is not sent is lost.
 
-    def said(self, line, lines):
-        """The datagram with these lines, after the heartbeat if there is a key."""
-        # It only grows, over restarts too, whatever the clock does: see `note_took`.
-        self.counter = max(self.counter + 1, time.time_ns())
-        first = [line.decode("ascii")] if self.key else []
+    def datagrams(self, line, lines, is_short=False):
+        """The datagrams that say a heartbeat and these lines: with a key it is one."""
+        if is_short:
+            return [signed_shortly(b"%s %d" % (line, self.counter), self.key)]
+        first = [line.decode("ascii"), TAKES_SHORT] if self.key else []
         text = text_of_said(self.session, self.me, self.counter, [*first, *lines])
         data = text.encode("ascii")
-        return signed(data, self.key) if self.key else data
+        if self.key:
+            return [signed(data, self.key)]
+        return [line, data] if lines else [line]
 
     def hear_until(self, end):
         """Yields what the other supervisors of the session send until then: the node of each, and
@@ -140,14 +156,16 @@ class Beats:
     def plain(self, data, node):
         """Without a key. The heartbeat of one who has a key stands in what else is said."""
         beat = self.mine(beat_of(data), node)
-        said = None if beat else self.mine(said_in(data), node)
+        said = None if beat else self.mine(said_in(data) or short_in(data), node)
         return beat or said and self.mine(beat_of(said.lines[0]), node), said
 
     def checked(self, data, node):
         """With a key. What comes once more counts for nothing, but for runs: that a record was so
         far stays true."""
-        said = self.mine(said_in(data), node)
-        if said is None or not is_signed(data, self.key):
+        short = self.mine(short_in(data), node)
+        said = short or self.mine(said_in(data), node)
+        is_so = is_signed_shortly if short else is_signed
+        if said is None or not is_so(data, self.key):
             self.unsigned[node] += 1
             return None, None
         self.unsigned[node] = 0
@@ -157,6 +175,8 @@ class Beats:
             self.is_behind = True
             return None, said._replace(lines=[it for it in said.lines if it.startswith(b"run ")])
         self.took[node] = said.counter
+        takes_short = short or TAKES_SHORT.encode("ascii") in said.lines
+        (self.short.add if takes_short else self.short.discard)(node)
         return self.mine(beat_of(said.lines[0]), node), said
 
     def new_strangers(self):

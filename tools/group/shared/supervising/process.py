@@ -4,6 +4,7 @@ with its supervisor."""
 import contextlib
 import ctypes
 import os
+import re
 import select
 import signal
 import socket
@@ -30,6 +31,10 @@ LIBC = ctypes.CDLL(None)
 PAUSE, LONGEST_PAUSE, STEADY = 0.1, 5.0, 2.0
 # What a node's log says of something that went wrong begins so.
 FAULTS = ("campaign refused", "no room for typed keys", "cannot send", "dropped", "trace lost")
+
+# What a node's log says of how far it knows the session: the first place that it has not learned,
+# and how many keys wait at it.
+KNOWN = re.compile(r"known front (\d{1,5}) waiting (\d{1,3})")
 
 
 def end_with(parent):
@@ -74,6 +79,9 @@ class Node:
         # How the program has ended, by this process of the node, or None; and what went wrong last,
         # with its time.
         self.end, self.fault = None, None
+        # Of this process of the node, the first place that it has not learned, and how many keys
+        # wait at it; None as long as its log has not said so.
+        self.front, self.waiting = None, None
         self.started = self.moved = 0
         self.pause, self.due = PAUSE, time.monotonic()
 
@@ -131,12 +139,14 @@ class Node:
         speech = Speech(is_log_asked(), self.note)
         self.process = speech.leave_to(lambda begin: subprocess.Popen(
             command, stdin=subprocess.DEVNULL, stdout=self.console.file, stderr=begin,
-            env={**os.environ, "PGROUP_LOG": "1"}, preexec_fn=lambda: end_with(parent),
+            env={**os.environ, "PGROUP_LOG": "1", "PGROUP_COUNTS": "1"},
+            preexec_fn=lambda: end_with(parent),
         ))
         self.speech = speech
         self.started = self.moved = now
         self.is_held = False
         self.end, self.text = None, None
+        self.front, self.waiting = None, None
         say(self.words, f"started, process {self.process.pid}")
 
     def seen(self):
@@ -185,7 +195,9 @@ class Node:
 
     def note(self, text):
         """Says what a line of the node's log means for a person, and remembers what went wrong."""
-        end = end_of(text)
+        end, known = end_of(text), KNOWN.fullmatch(text)
+        if known:
+            self.front, self.waiting = map(int, known.groups())
         if text.startswith(FAULTS):
             self.fault = time.time(), text
         if end is not None:
@@ -196,7 +208,7 @@ class Node:
             say(self.words, f"says that the program has ended{how}; {goes_on}")
 
     def note_end(self, status, now):
-        self.process = None
+        self.process, self.front, self.waiting = None, None, None
         self.speech.close()
         if status == 2:
             raise Refused("the program refuses its arguments")

@@ -10,9 +10,18 @@ from ..journal import SPARING
 NOTE = re.compile(r"\d+\.\d{3} node \d (.*)")
 
 
+# What begins a line of counts there. A supervisor always asks for these.
+COUNTS = "known front "
+
+
 def is_log_asked():
     """Whether the environment asks for the lines of nodes' logs."""
     return os.environ.get("PGROUP_LOG") == "1"
+
+
+def are_counts_asked():
+    """Whether it asks for the counts in these logs too."""
+    return os.environ.get("PGROUP_COUNTS") == "1"
 
 
 def spared(line, note):
@@ -62,11 +71,16 @@ class Speech:
     def take(self, lines):
         texts = [it.decode("utf-8", "replace") for it in lines]
         notes = [NOTE.fullmatch(it) for it in texts]
-        self.write([spared(it, note) for it, note in zip(lines, notes)
-                    if self.is_log_shown or not note])
+        self.write([spared(it, note) for it, note in zip(lines, notes) if self.is_shown(note)])
         self.last = texts[-1]
         for it in filter(None, notes):
             self.note(it[1])
+
+    def is_shown(self, note):
+        """Whether a line with this note is handed on."""
+        if not note:
+            return True
+        return self.is_log_shown and (are_counts_asked() or not note[1].startswith(COUNTS))
 
     def write(self, lines):
         """What cannot be written is left out."""
