@@ -24,7 +24,7 @@ ghost use Rattle.group_process.specs.Network.{GivenEntry, entries_alone};
 ghost use Rattle.group_process.specs.Runs.{AreRuns, Attempt, ConsolesAreReleased, ConsolesShowRuns, IsOver, NodeRun, Starts};
 ghost use Rattle.group_disk.specs.DiskCalls.{AreCallsAt, AreDiskCalls, DiskCall, HaveStarts, WriteAt, runs_of};
 ghost use Rattle.group_disk.specs.Folders.{AreOverDisk, DiskStart, IsFolderLog, IsNetworkFolderLog, IsOverDisk, LeavesNoMoreThan, start_over, starts_of};
-ghost use Rattle.group_disk.specs.Headline.{AlwaysLaterOfDisks, AlwaysOfDiskNodes, AlwaysOfDisks, AreSeenAlike, AreUpAsRun, DisksLeaveNodes, HasFirstStarts, IsAfterDisks};
+ghost use Rattle.group_disk.specs.Headline.{AlwaysLaterOfDisks, AlwaysOfDiskNodes, AlwaysOfDisks, AreSeenAlike, AreUpAsRun, DisksLeaveNodes, HasFirstStarts, HaveMomentOfDisks, IsAfterDisks};
 ghost use Rattle.group_disk.specs.TornStarts.{first_of_three, no_files, torn_group, torn_log, torn_starts};
 ghost use Rattle.group_process.specs.Terminals.{TerminalsAreConsoles, TerminalsShowConsoles, TerminalsShowLastRuns};
 ghost use Rattle.group_disk.specs.Written.{IsWrittenAt};
@@ -100,6 +100,9 @@ pub fn disks_headline()
     ensures fronts { (p : Parts) (group : Group) (restarts : ℕ → List Attempt)
         (log more : List Entry) → IsDiskLog p group restarts (log ++ more)
         → HasFirstStarts p group restarts log }
+    ensures moments { (p : Parts) (group : Group) (restarts : ℕ → List Attempt)
+        (log more : List Entry) → IsDiskLog p group restarts (log ++ more)
+        → HaveMomentOfDisks p group restarts log more }
     ensures as_run { (p : Parts) (group : Group) (restarts : ℕ → List Attempt) (log : List Entry)
         (now : List Member) → IsDiskLog p group restarts log
         → IsAfterDisks p group restarts log now → AreUpAsRun group restarts now }
