@@ -11,3 +11,5 @@ mod RunsWrite
 mod CallsInTurn
 mod DiskNetworks
 mod TornFiles
+mod TornLog
+mod WrongStarts

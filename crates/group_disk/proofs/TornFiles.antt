@@ -1,15 +1,14 @@
 -- Starts over one disk with all bytes of its file, in which a failed save was made and one was torn.
-use Rattle.std.proofs.lemmas.Bool.{cases_eq, ne_eqb}
 use Rattle.std.proofs.lemmas.Bool.Decides.{nat_tests}
 use Rattle.std.proofs.lemmas.List.{append-nil, length-append, nil_from_length}
-use Rattle.std.proofs.Common.{◌≡◌, ◌⊎◌, ◌∙◌, ◌<◌, ℕ, zero, suc, nat_lt, Bool, false, true, List, [], ◌∷◌, ◌++◌, flat_map, length, Option, Some, None, inl, inr, refl, sym, ap, subst, arith, lit<}
+use Rattle.std.proofs.Common.{◌≡◌, ◌⊎◌, ◌∙◌, ◌<◌, ℕ, zero, suc, nat_lt, Bool, false, true, List, [], ◌∷◌, ◌++◌, length, Option, Some, None, inl, inr, refl, sym, ap, subst, arith, lit<}
 use Rattle.std.specs.List.{Contains, list_all}
 use Rattle.pcode_file.specs.Parts.{Parts}
 use Rattle.paxos_msg.specs.declared.ballot.Ballot.{Ballot}
 use Rattle.paxos_msg.specs.declared.limits.TheConstants.{LAST_START}
 use Rattle.paxos_msg.specs.declared.record.Change.TheVariants.{Promise, Start}
 use Rattle.paxos_msg.specs.Batches.{Change, Record}
-use Rattle.paxos_msg.specs.Fits.{AreBytes, IsGroup, IsNode}
+use Rattle.paxos_msg.specs.Fits.{AreBytes, IsGroup}
 use Rattle.paxos_msg.specs.Records.{changed, empty_record}
 use Rattle.paxos_msg.specs.Spelling.{ballot_bytes}
 use Rattle.paxos_acceptor.specs.declared.me.Me.{Me}
@@ -24,10 +23,8 @@ use Rattle.paxos_disk.specs.Sectors.{torn}
 use Rattle.group_protocol.proofs.Elements.{entries_none, first_in, rest_in}
 use Rattle.group_protocol.specs.Known.{front}
 use Rattle.group_wire.specs.Process.{IsProcess, started}
-use Rattle.group_world.specs.Processes.{entries_of}
-use Rattle.group_process.specs.Runs.{entries_of_attempt}
-use Rattle.group_disk.specs.Folders.{AreOverDisk, IsFolderLog, starts_of}
-use Rattle.group_disk.specs.TornStarts.{appended_folder, campaigned, changes_of_four, changes_of_one, changes_of_three, changes_of_two, first_of_three, log_of_four, log_of_one, log_of_three, log_of_two, no_files, opening, promise_left, promise_lost, record_by_changes, renamed_folder, second_ballot, synced_folder, torn_group, torn_log, torn_starts}
+use Rattle.group_disk.specs.Folders.{AreOverDisk}
+use Rattle.group_disk.specs.TornStarts.{appended_folder, campaigned, changes_of_four, changes_of_one, changes_of_three, changes_of_two, first_of_three, log_of_four, log_of_one, log_of_three, log_of_two, no_files, opening, promise_left, promise_lost, record_by_changes, renamed_folder, second_ballot, synced_folder, torn_starts}
 use Rattle.group_disk.specs.Wrong.{MayCampaign}
 use Rattle.group_disk.proofs.TakenBack.{is_run}
 
@@ -44,8 +41,8 @@ bytes_by_test (x ∷ xs) h (suc i) =
     bytes_by_test xs rest i
 
 -- a log with whole entries alone may be found after a crash
-uncut_found : (bytes : List ℕ) (r : Record) → IsUncut me bytes r → LogFound me bytes r (length bytes)
-uncut_found bytes r (entries, end, whole, (changes, fold), long) = (
+pub uncut_found : (who : Me) (bytes : List ℕ) (r : Record) → IsUncut who bytes r → LogFound who bytes r (length bytes)
+uncut_found who bytes r (entries, end, whole, (changes, fold), long) = (
   entries,
   end,
   whole,
@@ -58,13 +55,13 @@ abbrev header : List ℕ
 header = 80 ∷ 76 ∷ 2 ∷ 1 ∷ 3 ∷ 0 ∷ 0 ∷ 0 ∷ 7 ∷ []
 
 -- what a crash leaves of a file that is on the disk
-synced_left : (bytes : List ℕ) (left : Option (List ℕ)) → MayFind (synced_folder bytes) left → left ≡ Some bytes
+pub synced_left : (bytes : List ℕ) (left : Option (List ℕ)) → MayFind (synced_folder bytes) left → left ≡ Some bytes
 synced_left bytes left (inl (xs, ys, none, lost, is)) =
     let e : xs ≡ [] = nil_from_length xs (omega (arith, ap length none, length-append xs ys)) in
     is ∙ (ap (λ (l : List ℕ). Some (bytes ++ torn lost (length bytes) l)) e ∙ ap Some (append-nil bytes))
 synced_left bytes left (inr any) = absurd any
 
-start_next : (r : Record) → r.starts < LAST_START → IsEntry 3 r Start
+pub start_next : (r : Record) → r.starts < LAST_START → IsEntry 3 r Start
 start_next r spare = record { in_ranges = tt; next = spare }
 
 -- the laws of logs and of disks, at this node
@@ -140,7 +137,7 @@ module _ (new : IsUncut me header empty_record)
   renamed_loads : LoadsNoMoreBut (synced_folder log_of_one) r2 renamed_folder
   renamed_loads s may = elim may.found [
     | inl left ↦
-        inr (read_one log_of_two r2 s _ may.me (uncut_found log_of_two r2 uncut_two) may.in_range
+        inr (read_one log_of_two r2 s _ may.me (uncut_found me log_of_two r2 uncut_two) may.in_range
         (subst (λ (o : Option (List ℕ)). Reads may.me o s) (synced_left log_of_two may.left (inl left)) may.reads))
     | inr (inl left) ↦
         inl (record { me = may.me; left = may.left; in_range = may.in_range; found = inl left; reads = may.reads })
@@ -220,19 +217,19 @@ module _ (new : IsUncut me header empty_record)
       record { me = me; left = None; in_range = omega arith; found = inl refl; reads = refl },
       campaigned_is,
       tt,
-      loads_one log_of_one r1 _ _ (uncut_found log_of_one r1 uncut_one),
+      loads_one log_of_one r1 _ _ (uncut_found me log_of_one r1 uncut_one),
     ),
     (
       λ s may. may,
       (
-        may_load log_of_one r1 _ refl (uncut_found log_of_one r1 uncut_one),
+        may_load log_of_one r1 _ refl (uncut_found me log_of_one r1 uncut_one),
         λ e. absurd (omega (arith, e)),
         renamed_loads,
       ),
       (
         crash_of_renamed,
         (
-          may_load log_of_two r2 _ refl (uncut_found log_of_two r2 uncut_two),
+          may_load log_of_two r2 _ refl (uncut_found me log_of_two r2 uncut_two),
           is_run p me r2 false may_campaign,
           tt,
           appended_loads,
@@ -243,38 +240,10 @@ module _ (new : IsUncut me header empty_record)
             may_load (log_of_three ++ promise_left) r3 _ refl cut_three,
             record { spare = λ e. absurd (omega (arith, e)); does = refl; fails = tt },
             tt,
-            loads_one log_of_four r4 _ _ (uncut_found log_of_four r4 uncut_four),
+            loads_one log_of_four r4 _ _ (uncut_found me log_of_four r4 uncut_four),
           ),
           tt,
         ),
       ),
     ),
   )
-
--- ---- a log of the group
-
-module _ (p : Parts) (over : AreOverDisk p me no_files (torn_starts p)) where
-  entries_are : (i : ℕ) → entries_of i (torn_log p)
-      ≡ flat_map (entries_of_attempt (record { node = i; group = me.group })) (starts_of (torn_group p i))
-  entries_are i = grind (arith, nat_tests)
-
-  started_are : (i : ℕ) → AreOverDisk p (record { node = i; group = me.group }) no_files (torn_group p i)
-  started_are i = elim (cases_eq 1 i) [
-    | inl same ↦ rw (sym same) over
-    | inr ne ↦ rw (ne_eqb 1 i ne) tt
-  ]
-
-  one_of_three : IsNode 3 1
-  one_of_three = (omega arith, omega arith)
-
-  pub is_logged : IsFolderLog p me.group (λ i. no_files) (torn_group p) (torn_log p)
-  is_logged = record {
-    among = (
-      one_of_three,
-      (one_of_three, (one_of_three, (one_of_three, (one_of_three, (one_of_three, (one_of_three, (one_of_three, tt))))))),
-    );
-    entries = entries_are;
-    begun = λ i. record { file = refl; others = refl };
-    started = started_are;
-    carried = (tt, (tt, (tt, (tt, (tt, (tt, (tt, (tt, tt))))))));
-  }

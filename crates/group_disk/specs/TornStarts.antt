@@ -1,17 +1,23 @@
--- Starts of node 1 of a group of three over one disk, with all bytes of its file: among them a
--- failed save that was made, a failed save that was torn, and a start over what that left.
-use Rattle.std.specs.Prelude.{ℕ, ◌==◌, false, true, if◌then◌else◌, List, [], ◌∷◌, ◌++◌, flat_map, Some, None}
+-- Starts of two nodes of a group of three, each over one disk, with all bytes of its file: among
+-- those of the first one a failed save that was made, a failed save that was torn, and a start over
+-- what that left.
+use Rattle.std.specs.Prelude.{ℕ, ◌==◌, false, true, if◌then◌else◌, List, [], ◌∷◌, ◌++◌, drop, flat_map, take, Some, None}
 use Rattle.pcode_file.specs.Parts.{Parts}
 use Rattle.paxos_msg.specs.declared.ballot.Ballot.{Ballot}
 use Rattle.paxos_msg.specs.declared.record.Change.TheVariants.{Promise, Start}
-use Rattle.paxos_msg.specs.Batches.{Change, Record}
+use Rattle.paxos_msg.specs.declared.message.Body.TheVariants.{Prepare}
+use Rattle.paxos_msg.specs.Batches.{Change, Msg, Record}
+use Rattle.paxos_msg.specs.Datagrams.{spelling}
 use Rattle.paxos_msg.specs.Records.{empty_record}
 use Rattle.paxos_acceptor.specs.declared.me.Me.{Me}
 use Rattle.paxos_disk.specs.Disks.{Folder, on_disk}
 use Rattle.paxos_disk.specs.Log.{folded}
-use Rattle.group_node.specs.Deeds.{Campaign}
+use Rattle.group_node.specs.Deeds.{Campaign, Hear}
+use Rattle.group_node.specs.NodeCalls.{Running}
+use Rattle.group_protocol.specs.Known.{Response, front}
 use Rattle.group_protocol.specs.Packets.{datagrams_of}
-use Rattle.group_protocol.specs.ProposerRows.{on_campaign}
+use Rattle.group_protocol.specs.Protocol.{on_message}
+use Rattle.group_protocol.specs.ProposerRows.{next_ballot, on_campaign}
 use Rattle.group_wire.specs.Doings.{Doing}
 use Rattle.group_wire.specs.Process.{started}
 use Rattle.group_world.specs.Processes.{Entry}
@@ -99,7 +105,7 @@ appended_folder = record {
 
 -- ---- the starts
 
--- A run over no record that campaigns, and is killed.
+-- The campaign of a node that has started over no record.
 abbrev pub first_campaign : Parts → Me → Doing
 first_campaign p me = record {
   deed = Campaign;
@@ -108,6 +114,7 @@ first_campaign p me = record {
   typed = [];
 }
 
+-- A run over no record that campaigns, and is killed.
 abbrev pub campaigned : Parts → Me → NodeRun
 campaigned p me =
     let up = started p me empty_record in
@@ -137,12 +144,68 @@ torn_starts p =
     (synced_folder log_of_four)
     ∷ []
 
+-- ---- another node
+
+-- The second node of three.
+abbrev pub second_of_three : Me
+second_of_three = record { node = 2; group = record { size = 3; session = 7 } }
+
+-- Its log after one start and the promise of the first node's ballot.
+abbrev pub log_of_second : List ℕ
+log_of_second = 80 ∷ 76 ∷ 2 ∷ 2 ∷ 3 ∷ 0 ∷ 0 ∷ 0 ∷ 7 ∷ 1 ∷ 2 ∷ 0 ∷ 0 ∷ 0 ∷ 1 ∷ 1 ∷ []
+
+-- The message of the first node's campaign.
+abbrev pub first_prepare : Parts → Msg
+first_prepare p =
+    let n = (started p first_of_three empty_record).known in
+    record { sender = 1; body = Prepare (next_ballot n) (front n) }
+
+-- The second node as it has just started, and once it has heard that message.
+abbrev pub second_up : Parts → Running
+second_up p = started p second_of_three empty_record
+
+abbrev pub second_promised : Parts → Response
+second_promised p =
+    on_message (second_up p).known (first_prepare p).sender (first_prepare p).body
+
+-- A run of the second node over no record. It hears the message, promises the ballot, and is
+-- killed.
+abbrev pub first_heard : Parts → NodeRun
+first_heard p = record {
+  process = record {
+    loaded = empty_record;
+    doings = (record {
+      deed = Hear (first_prepare p);
+      given = Some (spelling second_of_three.group (first_prepare p)) ∷ [];
+      sent = datagrams_of second_of_three (second_promised p).sends;
+      typed = [];
+    }) ∷ [];
+    failed = None;
+  };
+  last = record (second_up p) { known = (second_promised p).node };
+  stand = IsOver false;
+}
+
+-- Its one start, over its own disk.
+abbrev pub second_starts : Parts → List DiskStart
+second_starts p =
+    start_over no_files (Starts (first_heard p)) (synced_folder log_of_second) ∷ []
+
 -- ---- a log of the group
 
--- The starts of each node of that group: those of node 1, and none of the others.
+-- The starts of each node of that group: those of the first two, and none of the third.
 abbrev pub torn_group : Parts → ℕ → List DiskStart
-torn_group p i = if 1 == i then torn_starts p else []
+torn_group p i =
+    if 1 == i then torn_starts p else (if 2 == i then second_starts p else [])
 
--- What they do, in order of time.
+-- The entries of the first node.
+abbrev pub torn_entries : Parts → List Entry
+torn_entries p = flat_map (entries_of_attempt first_of_three) (starts_of (torn_starts p))
+
+-- What they do, in order of time: the second node hears the campaign of the first one before that
+-- is killed.
 abbrev pub torn_log : Parts → List Entry
-torn_log p = flat_map (entries_of_attempt first_of_three) (starts_of (torn_starts p))
+torn_log p =
+    take 2 (torn_entries p)
+    ++ (flat_map (entries_of_attempt second_of_three) (starts_of (second_starts p))
+    ++ drop 2 (torn_entries p))

@@ -1,5 +1,5 @@
 //! Laws of processes over disks.
-ghost use Rattle.std.specs.Prelude.{◌≡◌, ℕ, Bool, [], ◌∷◌, ◌++◌, Err, length, List, Option, Result, Some, take};
+ghost use Rattle.std.specs.Prelude.{◌≡◌, ◌≢◌, ℕ, Bool, [], ◌∷◌, ◌++◌, Err, length, List, Option, Result, Some, take};
 ghost use Rattle.pcode_file.specs.Parts.{Parts};
 ghost use Rattle.paxos_msg.specs.declared.message.Group.{Group};
 ghost use Rattle.paxos_msg.specs.Batches.{Record};
@@ -21,20 +21,23 @@ ghost use Rattle.group_world.specs.Processes.{Entry};
 ghost use Rattle.group_disk.specs.Wrong.{MayCampaign, taken_back};
 ghost use Rattle.paxos_msg.specs.Records.{empty_record};
 ghost use Rattle.group_process.specs.Network.{GivenEntry, entries_alone};
-ghost use Rattle.group_process.specs.Runs.{AreRuns, Attempt, ConsolesAreReleased, ConsolesShowRuns, IsOver, Starts};
+ghost use Rattle.group_process.specs.Runs.{AreRuns, Attempt, ConsolesAreReleased, ConsolesShowRuns, IsOver, NodeRun, Starts};
 ghost use Rattle.group_disk.specs.DiskCalls.{AreCallsAt, AreDiskCalls, DiskCall, HaveStarts, WriteAt, runs_of};
 ghost use Rattle.group_disk.specs.Folders.{AreOverDisk, DiskStart, IsFolderLog, IsNetworkFolderLog, IsOverDisk, LeavesNoMoreThan, start_over, starts_of};
-ghost use Rattle.group_disk.specs.Headline.{AlwaysLaterOfDisks, AlwaysOfDiskNodes, AlwaysOfDisks, AreSeenAlike, AreUpAsRun, DisksLeaveNodes, HasFirstStarts, IsAfterDisks};
+ghost use Rattle.group_disk.specs.Headline.{AlwaysLaterOfDisks, AlwaysOfDiskNodes, AlwaysOfDisks, AreSeenAlike, AreUpAsRun, DisksLeaveNodes, HasFirstStarts, HaveMomentOfDisks, IsAfterDisks};
 ghost use Rattle.group_disk.specs.TornStarts.{first_of_three, no_files, torn_group, torn_log, torn_starts};
 ghost use Rattle.group_process.specs.Terminals.{TerminalsAreConsoles, TerminalsShowConsoles, TerminalsShowLastRuns};
 ghost use Rattle.group_disk.specs.Written.{IsWrittenAt};
 ghost use Rattle.group_disk.specs.Restarts.{AreChosenRuns, AreRestarts, AreSeenSame, HasKeptLog, HaveRuns, IsDiskLog};
 
-use group_process::laws::{networks_carry, runs_headline, terminals_are_consoles};
+use group_process::laws::{
+    networks_carry, runs_headline, terminals_are_consoles, what_is_given_was_sent,
+};
 use paxos_acceptor::{Me, Store};
 use paxos_disk::Disk;
 use paxos_disk::laws::{logs_grow, torn_appends, what_restarts_load};
 use paxos_msg::Group;
+use paxos_msg::grammar::spelling_is_short;
 use pcode_machine::laws::prefixes_are_ordered;
 
 /// Starts over a disk are runs over a store that keeps its record, with the same deeds.
@@ -97,6 +100,9 @@ pub fn disks_headline()
     ensures fronts { (p : Parts) (group : Group) (restarts : ℕ → List Attempt)
         (log more : List Entry) → IsDiskLog p group restarts (log ++ more)
         → HasFirstStarts p group restarts log }
+    ensures moments { (p : Parts) (group : Group) (restarts : ℕ → List Attempt)
+        (log more : List Entry) → IsDiskLog p group restarts (log ++ more)
+        → HaveMomentOfDisks p group restarts log more }
     ensures as_run { (p : Parts) (group : Group) (restarts : ℕ → List Attempt) (log : List Entry)
         (now : List Member) → IsDiskLog p group restarts log
         → IsAfterDisks p group restarts log now → AreUpAsRun group restarts now }
@@ -138,12 +144,13 @@ pub fn a_promise_is_taken_back()
     ensures some { (p : Parts) (me : Me) → MayCampaign p me empty_record }
 {}
 
-/// The premises of the main theorem can be met away from the first start. Four starts over one disk
-/// are given with all bytes of its file, as a log of a group of three.
+/// The premises of the main theorem can be met away from the first start. Starts of two nodes over
+/// their disks are given with all bytes of their files, as a log of a group of three.
 ///
-/// Node 1 campaigns and is killed. The save of its next start fails, and was made for all that. The
-/// third start loads what it has left and campaigns, and the append of its promise is torn. The
-/// fourth one starts over the log with the torn end.
+/// Node 1 campaigns, node 2 hears that and promises the ballot, and both are killed. The save of
+/// the next start of node 1 fails, and was made for all that. The third start loads what it has
+/// left and campaigns, and the append of its promise is torn. The fourth one starts over the log
+/// with the torn end.
 pub fn starts_may_be_torn()
     ensures starts { (p : Parts) → AreOverDisk p first_of_three no_files (torn_starts p) }
     ensures logged { (p : Parts)
@@ -155,6 +162,27 @@ pub fn starts_may_be_torn()
     };
     logs_grow();
     torn_appends();
+    spelling_is_short();
+    what_is_given_was_sent();
+    what_restarts_load(Me { node: 1, group });
+    what_restarts_load(Me { node: 2, group });
+}
+
+/// Starts that are none: over another record than a restart finds in the folder, as over the one
+/// that the start before it has loaded; and a first start over a record, as over that of another
+/// node.
+pub fn wrong_starts()
+    ensures other_record { (p : Parts) (me : Me) (folder after : Folder) (kept : Record)
+        (run : NodeRun) → LoadsOnly folder (kept ∷ []) → run.process.loaded ≢ kept
+        → ¬ AreOverDisk p me folder (start_over folder (Starts run) after ∷ []) }
+    ensures first_over_a_record { (p : Parts) (me : Me) (after : Folder) (run : NodeRun)
+        → run.process.loaded ≢ empty_record
+        → ¬ AreOverDisk p me no_files (start_over no_files (Starts run) after ∷ []) }
+{
+    let group = Group {
+        size: 3,
+        session: 7,
+    };
     what_restarts_load(Me { node: 1, group });
 }
 

@@ -1,8 +1,12 @@
-use Rattle.std.proofs.Common.{ℕ, List}
+use Rattle.std.proofs.Common.{ℕ, List, ◌++◌}
+use Rattle.pcode_file.specs.Parts.{Parts}
+use Rattle.paxos_msg.specs.declared.message.Group.{Group}
+use Rattle.group_world.specs.Processes.{Entry}
 use Rattle.group_world.specs.Member.{Member}
 use Rattle.group_process.specs.Runs.{Attempt, ConsolesAreReleased, ConsolesShowRuns}
 use Rattle.group_process.specs.Terminals.{TerminalsAreConsoles, TerminalsShowConsoles, TerminalsShowLastRuns}
-use Rattle.group_disk.specs.Headline.{AlwaysOfDiskNodes}
+use Rattle.group_disk.specs.Headline.{AlwaysOfDiskNodes, HaveMomentOfDisks}
+use Rattle.group_disk.specs.Restarts.{IsDiskLog}
 use Rattle.group_rules.specs.Claims.{ConsolesAgree, ConsolesGrow, ConsolesHoldOutput, HasNoGap, KeysOnce, LearnedAgree, LearnedChosen, LearnedStays, ConsolesShowReleased, SerialsInOrder}
 use Rattle.group_disk.proofs.DiskClaims.{disks_leave, of_disks, released_over_disks, seen_alike, shows_over_disks, up_as_run}
 use Rattle.group_disk.proofs.DiskMoments.{AlikeLaw, grow_by_seats, later_of_disks, stays_by_seats}
@@ -23,6 +27,15 @@ alike c p group restarts log now other size session =
     seen_alike (shows_over_disks claims.shows_runs) (released_over_disks claims.only_released) c.prefixes_are_ordered.ensures.both p
     group restarts log size session now other
 
+moments : goal.After-prefixes_are_ordered → (p : Parts) (group : Group) (restarts : ℕ → List Attempt) (log more : List Entry)
+    → IsDiskLog p group restarts (log ++ more) → HaveMomentOfDisks p group restarts log more
+moments c p group restarts log more h =
+    let (cut, before, first) = c.fronts_of_disks.ensures p group restarts log more h in (
+      cut,
+      record { before = before; all = h; first = first },
+      disks_leave c.disk_logs_are_kept.ensures c.runs_headline.ensures.nodes p group cut log before,
+    )
+
 pub returns : goal.returns
 returns c =
     let claims = c.runs_headline.ensures in
@@ -30,6 +43,7 @@ returns c =
     record {
       nodes = disks_leave c.disk_logs_are_kept.ensures claims.nodes;
       fronts = c.fronts_of_disks.ensures;
+      moments = moments c;
       as_run = up_as_run;
       alike = alike c;
       learned_agree = of_disks LearnedAgree claims.learned_agree;
