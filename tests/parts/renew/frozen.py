@@ -234,7 +234,7 @@ def kill_each(folder, step):
 
 
 def check_freeze_kills(folder):
-    """After each ninth of its calls, which are 128."""
+    """After each ninth of its calls, which are 134."""
     with temporary_in(folder):
         kill_each(folder, 9)
 
