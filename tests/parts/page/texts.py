@@ -230,28 +230,30 @@ def check_recovery(_):
     """The sentence after a loss says who was lost, who leads, and what is known of keys."""
     nodes = [{"at": at, "node": at + 1} for at in range(3)]
     killed = "was killed (SIGKILL), and its supervisor starts it again"
-    for what, deaths, leaders, lost, wanted in (
-        ("a leader", {0: killed}, (1, False, 2), False, "Node 1 was killed, and node 2 took over "
+    for what, deaths, leaders, fate, wanted in (
+        ("a leader", {0: killed}, (1, False, 2), "kept", "Node 1 was killed, and node 2 took over "
          "after about a second. No key that was typed here is lost."),
-        ("a leader, with keys that are lost", {0: killed}, (1, False, 2), True, "Node 1 was "
+        ("a leader, with keys that are lost", {0: killed}, (1, False, 2), "lost", "Node 1 was "
          "killed, and node 2 took over after about a second. Some typed keys are lost: a sentence "
          "names them."),
-        ("one that follows", {2: killed}, (2, 2), False, "Node 3 was killed, and node 2 leads as "
+        ("one that follows", {2: killed}, (2, 2), "kept", "Node 3 was killed, and node 2 leads as "
          "before. No key that was typed here is lost."),
-        ("a majority", {0: killed, 1: killed}, (3, False, 3), False, "Nodes 1 and 2 were killed, "
+        ("a majority", {0: killed, 1: killed}, (3, False, 3), "kept", "Nodes 1 and 2 were killed, "
          "and node 3 leads again after about a second. No key that was typed here is lost."),
-        ("two in two ways", {0: killed, 1: "has ended with status 1"}, (3, 3), False, "Node 1 was "
+        ("two in two ways", {0: killed, 1: "has ended with status 1"}, (3, 3), "kept", "Node 1 was "
          "killed and node 2 has ended, and node 3 leads as before. No key that was typed here is "
          "lost."),
-        ("where it is unknown who leads", {0: killed}, (1, None), False, None),
-        ("where the keys are not known yet", {0: killed}, (1, 2), None, None),
+        ("where it is unknown who leads", {0: killed}, (1, None), "kept", None),
+        ("where the keys are not known yet", {0: killed}, (1, 2), "unknown", None),
+        ("one, if nobody has typed", {0: killed}, (1, False, 3), "none",
+         "Node 1 was killed, and node 3 took over after about a second."),
     ):
         marks, recovery = Marks(), Recovery()
-        recovery.look(marks, nodes, leaders[0], False)
+        recovery.look(marks, nodes, leaders[0], "none")
         for at, text in deaths.items():
             marks.add(at, "ended", text)
-        said = [recovery.look(marks, nodes, it, lost) for it in leaders[1:]]
+        said = [recovery.look(marks, nodes, it, fate) for it in leaders[1:]]
         expect(f"before it goes on nothing is said: {what}", not any(said[:-1]), said)
         expect(f"what is said after the loss of {what}", said[-1] == wanted, said)
-        again = recovery.look(marks, nodes, leaders[-1], lost) if wanted else None
+        again = recovery.look(marks, nodes, leaders[-1], fate) if wanted else None
         expect(f"it is said once: {what}", again is None, again)

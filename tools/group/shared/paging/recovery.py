@@ -6,8 +6,8 @@ from .sentences import nodes_named, verb_of
 
 # How long it is waited for to know what became of the keys, in milliseconds.
 PATIENCE = 5000
-LOST = "Some typed keys are lost: a sentence names them."
-KEPT = "No key that was typed here is lost."
+KEYS = {"lost": " Some typed keys are lost: a sentence names them.",
+        "kept": " No key that was typed here is lost."}
 
 
 def is_loss(kind, text):
@@ -25,11 +25,10 @@ class Recovery:
         self.count, self.leader = 0, None
         self.lost, self.begun, self.back, self.has_stood = {}, None, None, False
 
-    def look(self, marks, nodes, leader, keys_lost):
+    def look(self, marks, nodes, leader, fate):
         """`leader` is the number of the node that leads, False if it is known that none does, or
-        None. `keys_lost` says whether typed
-        keys were lost since the loss, or None while that is unknown. The sentence once it is due,
-        or None."""
+        None. `fate` is what has become of typed keys since the loss: they are `lost`, `kept` or
+        `unknown`, or there are `none`. The sentence once it is due, or None."""
         names = {it["at"]: it["node"] for it in nodes}
         for _, when, at, kind, text in marks.since(self.count):
             if is_loss(kind, text) and at in names:
@@ -43,13 +42,13 @@ class Recovery:
             self.leader, self.has_stood = leader, False
             return None
         self.back = self.back or now()
-        if keys_lost is None and now() - self.back < PATIENCE:
+        if fate == "unknown" and now() - self.back < PATIENCE:
             return None
-        said = self.sentence(leader, keys_lost)
+        said = self.sentence(leader, fate)
         self.leader, self.lost, self.begun, self.has_stood = leader, {}, None, False
         return said
 
-    def sentence(self, leader, keys_lost):
+    def sentence(self, leader, fate):
         by_verb = {}
         for node, verb in sorted(self.lost.items()):
             by_verb.setdefault(verb, []).append(node)
@@ -62,8 +61,7 @@ class Recovery:
         else:
             then = f"node {leader} leads again {after}" if self.has_stood else (
                 f"node {leader} leads as before")
-        keys = {True: f" {LOST}", False: f" {KEPT}", None: ""}[keys_lost]
-        return f"{who}, and {then}.{keys}"
+        return f"{who}, and {then}.{KEYS.get(fate, '')}"
 
 
 def plural(verb, nodes):

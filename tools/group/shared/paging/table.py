@@ -199,18 +199,17 @@ class Table:
         if not self.recovery.lost:
             self.is_lossy = False
         said = self.recovery.look(self.marks, self.group["nodes"], leader and leader.node,
-                                  self.keys_lost())
+                                  self.fate_of_keys())
         if said:
             self.note_sentence("over", said)
 
-    def keys_lost(self):
-        """Whether keys that were typed here were lost since the last loss of a node, or None if
-        that is not known, or none was typed."""
+    def fate_of_keys(self):
+        """What has become of keys that were typed here since a node was lost, in a word."""
         session = self.session
-        if self.is_lossy:
-            return True
-        is_known = session.count and session.tally and not session.blind
-        return False if is_known and not (session.waiting() or session.losses.left) else None
+        if self.is_lossy or not session.count:
+            return "lost" if self.is_lossy else "none"
+        is_open = session.waiting() or session.losses.left or session.blind or not session.tally
+        return "unknown" if is_open else "kept"
 
     def is_stuck(self, waiting):
         """Whether keys wait, and none was chosen for a while."""
