@@ -31,6 +31,8 @@ def check_heading(_):
          ("up", "unknown", "down", "down", "down"), 5, None, False),
         ("1 of 3 nodes are known to run, and whether a majority runs is unknown; who leads is "
          "unknown", ("up",), 3, None, False),
+        ("0 of 0 nodes run, and whether a majority runs is unknown; who leads is unknown", (), 0,
+         None, False),
         ("Only 2 of 5 nodes run, and 3 are needed: the program stands still",
          ("up", "up", "down", "down", "down"), 5, None, True),
         ("3 of 5 nodes are known to run, a majority; who leads is unknown",

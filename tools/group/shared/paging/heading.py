@@ -17,7 +17,8 @@ def majority_of(nodes, size):
     unknown = size - sum(it["state"] != "unknown" for it in nodes)
     if 2 * up > size:
         return True
-    return None if 2 * (up + unknown) > size else False
+    # Of a group without a size nothing is known yet.
+    return None if 2 * (up + unknown) > size or not size else False
 
 
 def few_of(nodes, size):
