@@ -1,7 +1,12 @@
 """What a page says of a group and of its nodes, in sentences, for tests/page."""
 
-from shared.paging.heading import due_of, flow_of, heading_of, still_of, with_reasons
-from shared.paging.lanes import told_of
+from shared.paging.heading import (
+    due_of, flow_of, heading_of, still_of, until_of, with_reasons,
+)
+from shared.paging.life import Life, Pair
+from shared.paging.marks import Marks
+from shared.paging.recovery import Recovery
+from shared.paging.sentences import death_of, told_of
 
 from ..checks import expect
 
@@ -14,27 +19,28 @@ def check_heading(_):
     for what, states, size, leader, nobody in (
         ("2 of 3 nodes run, a majority; node 1 leads", ("leads", "up", "down"), 3,
          "node 1 leads", False),
-        ("1 of 3 nodes run, no majority; nobody leads", ("down", "up", "stopped"), 3, None, True),
+        ("Nobody leads, so the program stands still; 2 of 3 nodes run, a majority",
+         ("down", "up", "up"), 3, None, True),
+        ("Only 1 of 3 nodes runs, and 2 are needed: the program stands still",
+         ("down", "up", "stopped"), 3, None, True),
+        ("Only 1 of 3 nodes runs, and 2 are needed: the program stands still",
+         ("down", "leads", "down"), 3, "node 2 leads", False),
+        ("None of 3 nodes runs, and 2 are needed: the program stands still",
+         ("down",) * 3, 3, None, True),
+        ("Only 1 of 5 nodes is known to run, and 3 are needed: the program stands still",
+         ("up", "unknown", "down", "down", "down"), 5, None, False),
         ("1 of 3 nodes are known to run, and whether a majority runs is unknown; who leads is "
          "unknown", ("up",), 3, None, False),
-        ("2 of 5 nodes run, no majority; nobody leads",
+        ("0 of 0 nodes run, and whether a majority runs is unknown; who leads is unknown", (), 0,
+         None, False),
+        ("Only 2 of 5 nodes run, and 3 are needed: the program stands still",
          ("up", "up", "down", "down", "down"), 5, None, True),
         ("3 of 5 nodes are known to run, a majority; who leads is unknown",
          ("up", "up", "up", "unknown", "unknown"), 5, None, False),
     ):
         found = heading_of(nodes(*states), size, leader, nobody)
         expect(what, found == what, found)
-    due = due_of(nodes("down", "up", "up", "stopped", "down"), 5, True)
-    wanted = "2 of 5 nodes run, and it takes 3: typed keys wait until then. "
-    wanted += "Supervisors start nodes again; otherwise start them on their machines."
-    expect("what is due without a majority", due == {"text": wanted, "at": None}, due)
-    for is_supervised, more in (
-        (True, "A supervisor asks a node by itself within seconds."),
-        (False, "If supervisors run, one of them asks a node within seconds."),
-    ):
-        due = due_of(nodes("down", "up", "up"), 3, True, is_supervised)
-        expect(f"what is due, supervised {is_supervised}", due["text"] ==
-               f"Nobody leads: typed keys wait. {more}", due)
+    check_due(nodes)
     able = [{**it, "can_lead": it["state"] == "up"} for it in nodes("leads", "up", "down")]
     for of, wanted in ((able, ["it leads already", None, "it does not run"]),
                        (able[1:], [None, "it does not run"]),
@@ -56,6 +62,72 @@ def check_heading(_):
     for is_still, wanted in ((False, moved), (True, still)):
         found = still_of(moved, is_still)
         expect("what is said of a session that has moved", found == wanted, found)
+    for states, flow, wanted in (
+        (("up", "up", "down"), "waits", "until a node leads"),
+        (("up", "down", "down"), "waits", "until 2 nodes run"),
+        (("leads", "up", "up"), "goes", None),
+    ):
+        found = until_of(nodes(*states), 3, flow)
+        expect(f"until when typed keys would wait: {wanted}", found == wanted, found)
+
+
+def check_due(nodes):
+    """What a person is told to do while the program stands still."""
+    few, still = "Only 1 of 3 nodes runs, and 2 are needed.", "The program stands still."
+    by_itself = "You need do nothing, unless that takes longer than a minute."
+    for what, of, waiting, wanted in (
+        ("two that are supervised", [{"state": "down", "supervised": True}] * 2, 10,
+         "What is typed is kept: 10 keys wait. Nodes 2 and 3 are started again by their "
+         f"supervisors. {by_itself}"),
+        ("one that is supervised", [{"state": "down", "supervised": True}, {"state": "down"}], 1,
+         "What is typed is kept: 1 key waits. Node 2 is started again by its supervisor. "
+         + by_itself),
+        ("none that is supervised", [{"state": "down"}] * 2, 0,
+         "What is typed is kept until then. Start nodes 2 and 3, unless supervisors do so."),
+        ("one that is stopped", [{"state": "stopped", "pid": 77}, {"state": "down"}], 0,
+         "What is typed is kept until then. Start node 3, unless supervisors do so. Node 2 is "
+         "stopped: let it move again by kill -CONT 77."),
+    ):
+        of = [{"node": at, **it} for at, it in enumerate([{"state": "up"}, *of], 1)]
+        due = due_of(of, 3, True, True, waiting)
+        expect(f"what is due without a majority: {what}",
+               due == {"text": f"{few} {still} {wanted}", "at": None}, due)
+    for is_supervised, more in (
+        (True, "A supervisor asks a node by itself within seconds. You can wait."),
+        (False, "If supervisors run, one of them asks a node within seconds. You can wait for "
+                "that."),
+    ):
+        due = due_of(nodes("down", "up", "up"), 3, True, is_supervised)
+        expect(f"what is due, supervised {is_supervised}", due["text"] ==
+               f"Nobody leads. What is typed waits until one does. {more}", due)
+    ended = [{**it, "end": "ended"} for it in nodes("up", "up", "down")]
+    expect("nothing is due once the program has ended", due_of(ended, 3, True) is None)
+    check_button()
+
+
+def check_button():
+    """The button asks the node that a supervisor asks: the next one behind the last that has asked
+    to lead. A greater ballot and a longer console come before that."""
+    able = {"state": "up", "can_lead": True, "supervised": True, "is_new": False, "bytes": 9,
+            "promised": "4.1"}
+    down = {"state": "down", "supervised": True, "is_new": False, "bytes": 9, "promised": "4.1"}
+    for what, changes, wanted, is_named in (
+        ("the next one", ({}, {}, {}), 2, True),
+        ("the one behind a node that is down", ({}, down, {}), 3, True),
+        ("not one that has just begun", ({}, {"is_new": True}, {}), 3, True),
+        ("the one with the greatest ballot", ({}, {"promised": "3.3"}, {}), 3, False),
+        ("the one with the longest console", ({}, {}, {"bytes": 10}), 3, False),
+        ("without all supervisors none is named", ({"supervised": False}, {}, {}), 2, False),
+    ):
+        of = [{**able, **more, "node": at, "at": at - 1} for at, more in enumerate(changes, 1)]
+        of = [{**it, "can_lead": it["state"] == "up"} for it in of]
+        due = due_of(of, 3, True, True)
+        expect(f"the button: {what}", due["node"] == wanted, due)
+        said = f"The supervisor of node {wanted} asks it to lead within seconds"
+        expect(f"the sentence: {what}", (said in due["text"]) == is_named, due)
+        expect("one can wait", "You can wait." in due["text"], due)
+
+
 
 
 def check_told(_):
@@ -67,7 +139,123 @@ def check_told(_):
         ("program ended", "says that its program has ended"),
         (f"program ended {error}", f"says that its program has ended: {error}"),
         (ended, None), ("started, process 7", None), ("leads ballot 2.2", None),
-        ("ended by SIGKILL; the node is started again",) * 2,
         ("its console c1 contradicts that of node 2 within the first 9 bytes: ..",) * 2,
+        ("is asked to campaign, as no leader is heard",
+         "is asked to lead by its supervisor, as no leader is heard"),
+        ("refused by 7.1 ballot 6.3", "gives up leading: node 1 has a greater ballot, 7.1"),
+        ("refused by 7.1 ballot 5.3", "does not lead: node 1 has a greater ballot, 7.1"),
+        ("campaign refused D1", "cannot ask to lead: refused D1"),
     ):
-        expect(f"what is told of: {line}", told_of(line) == wanted, told_of(line))
+        found = told_of(line, {"6.3"})
+        expect(f"what is told of: {line}", found == wanted, found)
+    again = "; the node is started again"
+    for line, wanted in (
+        (f"ended by SIGKILL{again}", "was killed (SIGKILL), and its supervisor starts it again"),
+        (f"ended by SIGSEGV{again}",
+         "was ended by a signal (SIGSEGV), and its supervisor starts it again"),
+        (f"ended with status 1, refused D2: the disk is full{again}",
+         "has ended with status 1, refused D2: the disk is full, and its supervisor starts it "
+         "again"),
+        ("ended with its supervisor, by SIGTERM", "has ended with its supervisor, by SIGTERM"),
+        ("started, process 7", None),
+    ):
+        found = death_of(line)
+        expect(f"what is told of a death: {line}", found == wanted, found)
+
+
+class Told:
+    """What is told of a node's life, as far as a person reads it."""
+
+    def __init__(self):
+        self.marks = Marks()
+        self.life = Life(0, self.marks)
+        self.see("A")
+
+    def see(self, process, is_down=False, is_said=True):
+        self.life.look(is_down, process, is_said)
+
+    def texts(self):
+        """The texts in the order of their times, as a browser lists them."""
+        kept = sorted(self.marks.since(0), key=lambda it: it[1])
+        return [text for _, _, _, kind, text in kept if text]
+
+
+def check_life(_):
+    """A death is told before the node is up again, and each of both once."""
+    told = Told()
+    told.see("A", is_down=True)
+    told.see("B")
+    expect("a death waits for the log, and what comes behind it waits too", not told.texts())
+    told.life.note_end("was killed", told.life.died + 5)
+    told.see("B")
+    expect("a death comes first", told.texts() == ["was killed", "is up again"], told.texts())
+    told.see("C")
+    told.see("C", is_said=False)
+    expect("a process that is another one has died between",
+           told.texts()[2:] == ["has ended", "is up again"], told.texts())
+    told = Told()
+    told.life.note_end("was killed", told.marks.begun)
+    told.see("A")
+    told.see("A", is_down=True)
+    expect("a death that the log tells first is told once", told.texts() == ["was killed"],
+           told.texts())
+    told.see("B")
+    told.see("B", is_down=True)
+    told.life.note_end("was killed", told.life.died)
+    told.see("C")
+    expect("deaths and starts take turns", told.texts() ==
+           ["was killed", "is up again"] * 2, told.texts())
+    crosses = sum(it[3] == "crash" for it in told.marks.since(0))
+    expect("each death has one cross", crosses == 2, told.marks.since(0))
+
+
+class Made:
+    """What a record says of a node's start."""
+
+    def __init__(self, starts, session=7):
+        self.session, self.starts = session, starts
+
+
+def check_pair(_):
+    """The process and the starts of a node change together."""
+    pair = Pair()
+    for is_down, process, starts, wanted in (
+        (False, (10, 1), 1, (10, 1)), (True, (10, 1), 1, (None, 1)), (True, (10, 1), 2, (None, 1)),
+        (False, (11, 2), 2, (11, 2)), (False, (12, 3), 2, (None, 2)), (False, (12, 3), 3, (12, 3)),
+    ):
+        found = pair.look(is_down, process, Made(starts))
+        expect(f"process {process[0]} and {starts} starts, down {is_down}: {wanted}",
+               found == wanted, found)
+
+
+def check_recovery(_):
+    """The sentence after a loss says who was lost, who leads, and what is known of keys."""
+    nodes = [{"at": at, "node": at + 1} for at in range(3)]
+    killed = "was killed (SIGKILL), and its supervisor starts it again"
+    for what, deaths, leaders, fate, wanted in (
+        ("a leader", {0: killed}, (1, False, 2), "kept", "Node 1 was killed, and node 2 took over "
+         "after about a second. No key that was typed here is lost."),
+        ("a leader, with keys that are lost", {0: killed}, (1, False, 2), "lost", "Node 1 was "
+         "killed, and node 2 took over after about a second. Some typed keys are lost: a sentence "
+         "names them."),
+        ("one that follows", {2: killed}, (2, 2), "kept", "Node 3 was killed, and node 2 leads as "
+         "before. No key that was typed here is lost."),
+        ("a majority", {0: killed, 1: killed}, (3, False, 3), "kept", "Nodes 1 and 2 were killed, "
+         "and node 3 leads again after about a second. No key that was typed here is lost."),
+        ("two in two ways", {0: killed, 1: "has ended with status 1"}, (3, 3), "kept", "Node 1 was "
+         "killed and node 2 has ended, and node 3 leads as before. No key that was typed here is "
+         "lost."),
+        ("where it is unknown who leads", {0: killed}, (1, None), "kept", None),
+        ("where the keys are not known yet", {0: killed}, (1, 2), "unknown", None),
+        ("one, if nobody has typed", {0: killed}, (1, False, 3), "none",
+         "Node 1 was killed, and node 3 took over after about a second."),
+    ):
+        marks, recovery = Marks(), Recovery()
+        recovery.look(marks, nodes, leaders[0], "none")
+        for at, text in deaths.items():
+            marks.add(at, "ended", text)
+        said = [recovery.look(marks, nodes, it, fate) for it in leaders[1:]]
+        expect(f"before it goes on nothing is said: {what}", not any(said[:-1]), said)
+        expect(f"what is said after the loss of {what}", said[-1] == wanted, said)
+        again = recovery.look(marks, nodes, leaders[-1], fate) if wanted else None
+        expect(f"it is said once: {what}", again is None, again)

@@ -100,7 +100,8 @@ class Elsewhere:
         it = view.states.get(node)
         shot = {"node": node, "at": FIRST + node, "state": "unknown", "lag": 0, "pid": None,
                 "promised": None, "starts": None, "votes": None, "bytes": None, "shown": "",
-                "end": None, "can_type": False, "can_lead": False,
+                "end": None, "can_type": False, "can_lead": False, "supervised": it is not None,
+                "is_new": False,
                 "fault": f"no answer from {self.addresses[node - 1]}{view.heard_of(node)}"}
         if it is None:
             return shot

@@ -9,7 +9,7 @@ import time
 from ..words import ask, text_of_address
 from ..watch import refusals_at
 from .guard import Refused
-from .lanes import now
+from .marks import now
 from .refusals import why_not_led
 from .server import HEADERS, STREAMS, Handler
 

@@ -14,17 +14,25 @@ from ..sitting.session import Session
 from ..terminal import Terminal
 from .clients import Clients
 from .counts import Counted
-from .heading import due_of, flow_of, heading_of, still_of, with_reasons
-from .lanes import Lane, Marks, now
+from .heading import (
+    due_of, flow_of, heading_of, majority_of, still_of, until_of, with_reasons,
+)
+from .lanes import Lane
+from .marks import Marks, now
+from .recovery import Recovery
 
 # How often the session looks, in seconds: for some time after a key, while keys wait, and at the
 # console alone else; and how often it looks at more than that then.
 SOON, LATE, AWAKE, REST, LOOK = 0.002, 0.02, 0.5, 0.04, 0.15
 # How often the nodes are shown anew, at most.
 SHOT = 0.1
+# After how many seconds in which no key is chosen it is said that keys wait.
+STUCK = 1.0
 # How many bytes of keys may wait here, and how many sentences are kept.
 MOST, SENTENCES = 1 << 16, 200
 ENDED = "The program has ended: it reads no keys any more."
+# What the session says of keys that are lost, or may be.
+LOSSES = ("lost", "blind", "voted")
 # How long a request that the session has to do may take, in seconds.
 PATIENCE = 10.0
 
@@ -47,6 +55,10 @@ class Table:
         # What supervisors say of the nodes whose records are not here, and of the group.
         self.others, self.view = [], None
         self.sentences, self.said = collections.deque(maxlen=SENTENCES), 0
+        # What the session has said, until the deaths before it are told.
+        self.unsaid, self.recovery, self.is_lossy = [], Recovery(), False
+        # How many keys were chosen when that was new, and when it was.
+        self.chosen = 0, time.monotonic()
         self.group, self.screens, self.held = None, 0, 0
         self.wake, self.typed, self.shot = threading.Event(), -AWAKE, -SHOT
 
@@ -119,7 +131,7 @@ class Table:
         is_new = self.has_seat and session.step()
         said, session.said = session.said, []
         data, session.output = bytes(session.output), bytearray()
-        is_due = bool(said or orders) or time.monotonic() - self.shot >= SHOT
+        is_due = bool(said or orders or self.unsaid) or time.monotonic() - self.shot >= SHOT
         with self.changed:
             before = self.version
             self.note(data)
@@ -151,11 +163,15 @@ class Table:
         self.held = len(self.session.held)
 
     def note_said(self, said):
-        """Notes what the session has said, by what the nodes are now."""
-        if not said:
+        """Notes what the session has said, by what the nodes are now, and once it is told which of
+        them have died before."""
+        self.unsaid += said
+        if not self.unsaid or any(it.life.died for it in self.lanes):
             return
         is_still = not self.group["is_led"] or self.group["flow"] != "goes"
+        said, self.unsaid = self.unsaid, []
         for kind, text in said:
+            self.is_lossy = self.is_lossy or kind in LOSSES
             self.note_sentence(kind, still_of(text, is_still))
 
     def note_sentence(self, kind, text):
@@ -174,9 +190,40 @@ class Table:
         if group != self.group or self.marks.count != count:
             self.group = group
             self.version += 1
+        self.tell_recovery(leader)
+
+    def tell_recovery(self, leader):
+        """Says in one sentence what has happened, once all goes on after a loss."""
+        if any(it.life.died for it in self.lanes):
+            return
+        if not self.recovery.lost:
+            self.is_lossy = False
+        said = self.recovery.look(self.marks, self.group["nodes"], leader and leader.node,
+                                  self.fate_of_keys())
+        if said:
+            self.note_sentence("over", said)
+
+    def fate_of_keys(self):
+        """What has become of keys that were typed here since a node was lost, in a word."""
+        session = self.session
+        if self.is_lossy or not session.count:
+            return "lost" if self.is_lossy else "none"
+        is_open = session.waiting() or session.losses.left or session.blind or not session.tally
+        return "unknown" if is_open else "kept"
+
+    def is_stuck(self, waiting):
+        """Whether keys wait, and none was chosen for a while."""
+        chosen, now_is = self.session.count - waiting, time.monotonic()
+        if not waiting or chosen != self.chosen[0]:
+            self.chosen = chosen, now_is
+        return now_is - self.chosen[1] > STUCK
 
     def leader(self):
-        """The ballot that leads, False if it is known that none does, or None."""
+        """The ballot that leads, False if it is known that none does, or None. Without a majority
+        none does, whatever it has led before."""
+        states = [{"state": it.state(None)} for it in self.lanes] + self.others
+        if majority_of(states, self.size(len(states))) is False:
+            return False
         leader, view = self.session.leader(), self.view
         if leader is None and view:
             return view.leader() or (False if view.leads_nobody() else None)
@@ -197,7 +244,7 @@ class Table:
 
     def is_supervised(self):
         """Whether a supervisor of the group is known to run."""
-        return bool(self.view and self.view.states) or any(it.is_supervised() for it in self.lanes)
+        return bool(self.view and self.view.states) or any(it.is_supervised for it in self.lanes)
 
     def group_now(self, leader):
         """The group for a browser."""
@@ -207,12 +254,13 @@ class Table:
         nodes.sort(key=lambda it: it["node"])
         size, waiting = self.size(len(nodes)), session.waiting()
         nodes, is_nobody = with_reasons(nodes, size), leader is False
-        due = due_of(nodes, size, is_nobody, is_nobody and self.is_supervised())
+        due = due_of(nodes, size, is_nobody, self.is_supervised(), waiting)
+        flow = flow_of(nodes, size, is_nobody)
         leads = f"node {leader.node} leads, ballot {text_of_ballot(leader)}" if leader else None
         return {
             "nodes": nodes, "heading": heading_of(nodes, size, leads, is_nobody),
-            "is_led": bool(leader), "flow": flow_of(nodes, size, is_nobody),
-            "due": due,
+            "is_led": bool(leader), "due": due, "until": until_of(nodes, size, flow),
+            "flow": "waits" if flow == "goes" and self.is_stuck(waiting) else flow,
             "session": self.view.session if self.view else session.number,
             "used": self.used(), "places": PLACES,
             "seat": session.at if self.has_seat and not session.away else None,

@@ -4,8 +4,10 @@ import { draw } from "./look.js";
 
 export const SECONDS = 60;
 const STRIP = 14, WORD = 5.6, KEPT = 400;
+// Crosses and starts that are as near as this to the first cross are one cross, with a count.
+const NEAR = 13;
 const FLAGS = {
-  campaign: (it) => `campaigns ${it}`, asked: () => "asked", leads: (it) => `leads ${it}`,
+  campaign: (it) => `asks to lead ${it}`, asked: () => "asked", leads: (it) => `leads ${it}`,
 };
 
 export class Lane {
@@ -59,10 +61,11 @@ export class Lane {
   signs() {
     const parts = [];
     let flagEnd = -99;
+    this.cross = { x: -999, count: 0 };
     for (const [when, kind, text] of this.marks) {
       const x = this.x(when);
       if (x < -200) continue;
-      const sign = this.sign(kind, x);
+      const sign = this.isCrowded(kind, x) ? null : this.sign(kind, x);
       if (sign) parts.push(sign);
       const word = FLAGS[kind]?.(text), wide = word && word.length * WORD;
       const begin = word && Math.max(Math.min(x, this.right - wide), flagEnd);
@@ -74,6 +77,16 @@ export class Lane {
     return parts;
   }
 
+  // Whether a sign is shown by a cross before it: the count of that one grows.
+  isCrowded(kind, x) {
+    const { cross } = this;
+    if (kind === "crash" && x - cross.x < NEAR) {
+      cross.word.textContent = `×${++cross.count}`;
+      return true;
+    }
+    return kind === "start" && cross.count > 1 && x - cross.x < NEAR;
+  }
+
   sign(kind, x) {
     const { y } = this;
     if (kind === "place") {
@@ -82,7 +95,11 @@ export class Lane {
     }
     if (kind === "start") return draw("path", { d: `M${x} ${y - 6}l8 6l-8 6z`, class: "start" });
     if (kind !== "crash") return null;
-    return draw("path", { d: `M${x - 6} ${y - 6}l12 12m0-12l-12 12`, class: "crash" });
+    const sign = draw("g", {}), word = draw("text", { x, y: y + 17, class: "times",
+      "text-anchor": x > this.right - 12 ? "end" : "middle" }, "");
+    sign.append(draw("path", { d: `M${x - 6} ${y - 6}l12 12m0-12l-12 12`, class: "crash" }), word);
+    this.cross = { x, word, count: 1 };
+    return sign;
   }
 
   console() {

@@ -9,7 +9,7 @@ import { followCursor } from "./screen.js";
 const FEW = 5;
 const STATES = { up: "runs", leads: "leads", down: "does not run", stopped: "is stopped",
   unknown: "is unknown" };
-const FLOWS = { goes: "", waits: "keys wait", ended: "the program has ended" };
+const ENDED = "the program has ended";
 // The cards by the numbers of the lanes, and the group as it was told last.
 let cards = new Map(), group = null, role = "watch";
 
@@ -107,20 +107,29 @@ export function showGroup(told) {
   $("session").textContent = group.session === null ? "" : `session ${group.session}`;
   showUsed();
   showFlow();
-  const verb = group.waiting === 1 ? "waits" : "wait";
-  const waits = group.waiting ? `${many(group.waiting, "key")} ${verb}` : "";
   $("at").textContent = group.seat === null ? "at no node of this machine" : `at ${group.name}`;
-  $("waits").textContent = waits ? waits + (group.why ? `: ${group.why}` : "") : FLOWS[group.flow];
+  $("waits").textContent = waits();
   showDue();
   dropEnds(group.nodes.filter((it) => ["up", "leads"].includes(it.state)).map((it) => it.node));
   drawLanes();
+}
+
+// How many keys wait, or what would become of one.
+function waits() {
+  const { waiting, why, until, flow } = group;
+  if (waiting) {
+    return `${many(waiting, "key")} ${waiting === 1 ? "waits" : "wait"}${why ? `: ${why}` : ""}`;
+  }
+  if (until) return `what ${role === "type" ? "you type" : "is typed"} waits ${until}`;
+  return flow === "ended" ? ENDED : "";
 }
 
 // The sign at the console, and what is said to who types, by what becomes of typed keys.
 function showFlow() {
   const { flow, seat } = group, mine = role === "type" ? "you type" : "you watch";
   $("dot").className = `dot on ${seat === null ? "none" : ""} ${flow}`;
-  $("role").textContent = role === "type" && FLOWS[flow] || mine;
+  const own = { ended: ENDED, waits: group.waiting ? "keys wait" : mine };
+  $("role").textContent = role === "type" && own[flow] || mine;
   $("role").className = `role ${role} ${flow}`;
   $("left").classList.toggle("ended", flow === "ended");
   setEnded(flow === "ended");
@@ -143,6 +152,7 @@ function showDue() {
     return;
   }
   box.hidden = false;
+  box.className = due.at === null ? "bad" : "";
   if (text.textContent !== due.text) text.textContent = due.text;
   button.hidden = due.at === null || role !== "type";
   button.textContent = due.at === null ? "" : `or ask node ${due.node} now`;

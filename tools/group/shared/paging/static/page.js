@@ -1,7 +1,7 @@
 // The page of a group that runs: it shows its token, takes the stream of events, and hands each
 // event on.
 import { $, beginTheme } from "./look.js";
-import { beginSaid, clearSaid, list, say, setAhead } from "./said.js";
+import { beginSaid, clearSaid, dropAsked, list, say, setAhead } from "./said.js";
 import { beginScreen, clearScreen, showScreen } from "./screen.js";
 import { enter } from "./enter.js";
 import { beginKeys, focusKeys, knownAs, myName } from "./keys.js";
@@ -38,6 +38,7 @@ function noteMarks([time, marks]) {
   setAhead(time);
   for (const [, when, at, kind, text] of marks) {
     const name = note(at, when, kind, text);
+    if (kind === "leads") dropAsked(when);
     if (TOLD[kind] && text) list(`${name} ${TOLD[kind](text)}`, kind, when);
   }
 }

@@ -2,17 +2,15 @@
 import { $, clock, make } from "./look.js";
 
 const KEPT = 100, FRESH = 15000;
-let noteEnds = 0, ahead = 0, isFollowing = true, shape = "";
+let noteEnds = 0, led = 0, ahead = 0, isFollowing = true, shape = "";
 
 // By how much the server's clock is ahead of this one's.
 export const setAhead = (serverTime) => (ahead = serverTime - Date.now());
 export const serverNow = () => Date.now() + ahead;
 
 export function say(text, kind = "", when = serverNow()) {
-  // That a node has ended has a line of its own.
-  const own = text.replace(/^node \d has ended: /i, "");
-  list(own[0].toUpperCase() + own.slice(1), kind, when);
-  if (serverNow() - when > FRESH) return;
+  list(text, kind, when);
+  if (serverNow() - when > FRESH || kind === "asked" && when <= led) return;
   $("note").textContent = text;
   $("note").className = kind;
   $("note").hidden = false;
@@ -20,10 +18,16 @@ export function say(text, kind = "", when = serverNow()) {
   noteEnds = setTimeout(() => ($("note").hidden = true), kind === "note" ? 5000 : FRESH);
 }
 
-// What has been said below the console of the end of a node goes once it is up again.
+// That no node can take the session goes from below the console once one is up again.
 export function dropEnds(up) {
   const ended = /\bnode (\d) (has ended|does not run|is stopped)/i.exec($("note").textContent);
-  if (ended && up.includes(+ended[1])) $("note").hidden = true;
+  if ($("note").className === "away" && ended && up.includes(+ended[1])) $("note").hidden = true;
+}
+
+// That a node is asked goes from there once one leads.
+export function dropAsked(when) {
+  led = when;
+  if ($("note").className === "asked") $("note").hidden = true;
 }
 
 // A line in the order of time.

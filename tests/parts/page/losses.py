@@ -1,0 +1,73 @@
+"""What a page tells of nodes that are lost, for tests/page."""
+
+import os
+
+from shared.words import ask
+
+from ..checks import expect, passed
+from .room import Room, kill
+from .visitor import await_page
+
+
+def check_few(folder):
+    """Without a majority the page says so in plain words, and nowhere that a node leads. Once one
+    runs again a sentence says what has happened."""
+    with Room(folder) as room:
+        ask(room.group[0].keys)
+        visitor = room.visit()
+        await_page(visitor)
+        visitor.await_that(lambda: visitor.group["is_led"], "node 1 leads")
+        for it in room.group[1:]:
+            it.kill()
+        few = "Only 1 of 3 nodes runs, and 2 are needed"
+        visitor.await_that(lambda: visitor.group["heading"] ==
+                           f"{few}: the program stands still", few)
+        told = visitor.group
+        expect("no node is said to lead", not told["is_led"] and "leads" not in
+               [it["state"] for it in told["nodes"]] and "leads" not in told["due"]["text"], told)
+        expect("what a key would do is said", told["waiting"] == 0 and told["flow"] == "waits"
+               and told["until"] == "until 2 nodes run", told)
+        visitor.press("kept")
+        due = (f"{few}. The program stands still. What is typed is kept: 4 keys wait. Start nodes "
+               "2 and 3, unless supervisors do so.")
+        visitor.await_that(lambda: visitor.group["due"]["text"] == due, due)
+        room.group[2].begin()
+        visitor.await_that(lambda: visitor.text() == "> kept", "it goes on")
+        visitor.await_that(lambda: not visitor.group["due"], "nothing is due")
+        said = "Nodes 2 and 3 have ended, and node 1 leads again after about "
+        visitor.await_that(lambda: any(it.startswith(said) and it.endswith(
+            "No key that was typed here is lost.") for it in visitor.sentences), said)
+    passed("without a majority: what happens, what to do, and afterwards what has happened")
+
+
+def check_started_again(folder):
+    """Where supervisors run it is said that they start their nodes again. They cannot as long as
+    nobody reads the consoles."""
+    with Room(folder) as room:
+        ask(room.group[0].keys)
+        visitor = room.visit()
+        await_page(visitor)
+        visitor.await_that(lambda: visitor.group["is_led"], "node 1 leads")
+        for it in room.group[1:]:
+            os.rename(it.console, f"{it.console}.kept")
+            os.mkfifo(it.console)
+            kill(it)
+        due = ("Only 1 of 3 nodes runs, and 2 are needed. The program stands still. What is typed "
+               "is kept until then. Nodes 2 and 3 are started again by their supervisors. You need "
+               "do nothing, unless that takes longer than a minute.")
+        visitor.await_that(lambda: visitor.group["due"] and visitor.group["due"]["text"] == due,
+                           due)
+        for it in room.group[1:]:
+            os.rename(f"{it.console}.kept", it.console)
+        said = "Nodes 2 and 3 were killed, and node 1 leads again after about "
+        visitor.await_that(lambda: any(it.startswith(said) for it in visitor.sentences), said)
+    passed("supervisors that start nodes again are told of")
+
+
+def check_turns(visitor):
+    """Of each node deaths and starts are told in turns, the death first."""
+    for at in range(3):
+        kept = [it for it in visitor.marks if it[2] == at and it[3] in ("ended", "start")]
+        kinds = [it[3] for it in sorted(kept, key=lambda it: it[1])]
+        expect(f"node {at + 1}: {len(kinds)} deaths and starts take turns", kinds == [
+            ("ended", "start")[it % 2] for it in range(len(kinds))], kept)

@@ -1,0 +1,27 @@
+"""What has happened to the nodes of a page, in order."""
+
+import collections
+import time
+
+# How many marks are kept, and the most characters of one.
+MARKS, TEXT = 4000, 200
+
+
+def now():
+    return int(time.time() * 1000)
+
+
+class Marks:
+    """What has happened, in order: a count, a time, the lane, a kind and a text."""
+
+    def __init__(self):
+        self.kept, self.count, self.begun = collections.deque(maxlen=MARKS), 0, now()
+
+    def add(self, lane, kind, text="", when=None):
+        self.count += 1
+        self.kept.append((self.count, when or now(), lane, kind, text[:TEXT]))
+
+    def since(self, count):
+        """The marks behind the one with this count."""
+        new = min(self.count - count, len(self.kept))
+        return [self.kept[it] for it in range(len(self.kept) - new, len(self.kept))]
