@@ -77,10 +77,13 @@ class Supervised(Running):
         return dropped_at(self.nodes[self.number - 1][1]) is None and not self.is_bound()
 
     def node(self):
-        """Returns the node's process, or None. A supervisor that renews has another one too."""
+        """Returns the node's process, or None. A supervisor that renews has another one too, which
+        has the words of the supervisor at first."""
         found = children_of(self.process.pid) if self.process else []
         if len(found) > 1:
-            found = [it for it in found if "--freeze" not in words_of_process(it)]
+            words = {it: words_of_process(it) for it in [*found, self.process.pid]}
+            own = words.pop(self.process.pid)
+            found = [it for it in found if "--freeze" not in words[it] and words[it] != own]
         if len(found) > 1:
             raise Broken(f"the supervisor of node {self.number} has {len(found)} nodes")
         return found[0] if found else None
