@@ -1,11 +1,9 @@
 """What a page tells of nodes that are lost, for tests/page."""
 
-import os
-
 from shared.words import ask
 
 from ..checks import expect, passed
-from .room import Room, kill
+from .room import Room
 from .visitor import await_page
 
 
@@ -16,7 +14,7 @@ def check_few(folder):
         ask(room.group[0].keys)
         visitor = room.visit()
         await_page(visitor)
-        visitor.await_that(lambda: visitor.group["is_led"], "node 1 leads")
+        visitor.await_that(lambda: states_of(visitor) == ["leads", "up", "up"], "node 1 leads")
         for it in room.group[1:]:
             it.kill()
         few = "Only 1 of 3 nodes runs, and 2 are needed"
@@ -40,28 +38,8 @@ def check_few(folder):
     passed("without a majority: what happens, what to do, and afterwards what has happened")
 
 
-def check_started_again(folder):
-    """Where supervisors run it is said that they start their nodes again. They cannot as long as
-    nobody reads the consoles."""
-    with Room(folder) as room:
-        ask(room.group[0].keys)
-        visitor = room.visit()
-        await_page(visitor)
-        visitor.await_that(lambda: visitor.group["is_led"], "node 1 leads")
-        for it in room.group[1:]:
-            os.rename(it.console, f"{it.console}.kept")
-            os.mkfifo(it.console)
-            kill(it)
-        due = ("Only 1 of 3 nodes runs, and 2 are needed. The program stands still. What is typed "
-               "is kept until then. Nodes 2 and 3 are started again by their supervisors. You need "
-               "do nothing, unless that takes longer than a minute.")
-        visitor.await_that(lambda: visitor.group["due"] and visitor.group["due"]["text"] == due,
-                           due)
-        for it in room.group[1:]:
-            os.rename(f"{it.console}.kept", it.console)
-        said = "Nodes 2 and 3 were killed, and node 1 leads again after about "
-        visitor.await_that(lambda: any(it.startswith(said) for it in visitor.sentences), said)
-    passed("supervisors that start nodes again are told of")
+def states_of(visitor):
+    return [it["state"] for it in visitor.group["nodes"]]
 
 
 def check_turns(visitor):

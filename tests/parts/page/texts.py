@@ -250,7 +250,7 @@ def check_recovery(_):
         ("one, if nobody has typed", {0: killed}, (1, False, 3), "none",
          "Node 1 was killed, and node 3 took over after about a second."),
     ):
-        marks, recovery = Marks(), Recovery()
+        marks, recovery = Marks(), Recovery(settled=0)
         recovery.look(marks, nodes, leaders[0], "none")
         for at, text in deaths.items():
             marks.add(at, "ended", text)
@@ -259,3 +259,11 @@ def check_recovery(_):
         expect(f"what is said after the loss of {what}", said[-1] == wanted, said)
         again = recovery.look(marks, nodes, leaders[-1], fate) if wanted else None
         expect(f"it is said once: {what}", again is None, again)
+    # A death may be told while the lanes still show a majority.
+    marks, recovery = Marks(), Recovery()
+    recovery.look(marks, nodes, 1, "none")
+    for at in (1, 2):
+        marks.add(at, "ended", killed)
+    said = [recovery.look(marks, nodes, it, "none") for it in (1, False, 1)]
+    expect("that a leader leads as before is not said too early", said[:2] == [None, None] and
+           said[2].startswith("Nodes 2 and 3 were killed, and node 1 leads again after"), said)

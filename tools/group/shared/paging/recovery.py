@@ -4,8 +4,9 @@ what became of typed keys."""
 from .marks import now
 from .sentences import nodes_named, verb_of
 
-# How long it is waited for to know what became of the keys, in milliseconds.
-PATIENCE = 5000
+# How long it is waited for to know what became of the keys, and, after a loss, whether the leader
+# still has a majority, in milliseconds. A death may be told before the lanes show it.
+PATIENCE, SETTLED = 5000, 1500
 KEYS = {"lost": " Some typed keys are lost: a sentence names them.",
         "kept": " No key that was typed here is lost."}
 
@@ -19,11 +20,16 @@ def is_loss(kind, text):
 class Recovery:
     """Notes who is lost, from the moment in which one is until a node leads."""
 
-    def __init__(self):
-        # How many marks were looked at, who led before, whom the group has lost since and how, and
-        # when it went on.
-        self.count, self.leader = 0, None
+    def __init__(self, settled=SETTLED):
+        self.settled = settled
+        # How many marks were looked at, who led before, when a loss was seen last, whom the group
+        # has lost since and how, and when it went on.
+        self.count, self.leader, self.seen = 0, None, 0
         self.lost, self.begun, self.back, self.has_stood = {}, None, None, False
+
+    def note_leader(self, leader):
+        """Notes that nobody leads, also while a death is not told yet."""
+        self.has_stood = self.has_stood or leader is False
 
     def look(self, marks, nodes, leader, fate):
         """`leader` is the number of the node that leads, False if it is known that none does, or
@@ -32,16 +38,19 @@ class Recovery:
         names = {it["at"]: it["node"] for it in nodes}
         for _, when, at, kind, text in marks.since(self.count):
             if is_loss(kind, text) and at in names:
-                self.begun, self.back = self.begun or when, None
+                self.begun, self.back, self.seen = self.begun or when, None, now()
                 self.lost[names[at]] = verb_of(text)
         self.count = marks.count
+        self.note_leader(leader)
         if not leader:
-            self.has_stood, self.back = self.has_stood or leader is False, None
+            self.back = None
             return None
         if not self.lost:
             self.leader, self.has_stood = leader, False
             return None
         self.back = self.back or now()
+        if leader == self.leader and not self.has_stood and now() - self.seen < self.settled:
+            return None
         if fate == "unknown" and now() - self.back < PATIENCE:
             return None
         said = self.sentence(leader, fate)

@@ -194,6 +194,7 @@ class Table:
 
     def tell_recovery(self, leader):
         """Says in one sentence what has happened, once all goes on after a loss."""
+        self.recovery.note_leader(leader and leader.node)
         if any(it.life.died for it in self.lanes):
             return
         if not self.recovery.lost:

@@ -1,6 +1,6 @@
 // The nodes: a card and a lane for each, and what a person can do about the group.
 import { $, draw, make, many } from "./look.js";
-import { dropEnds, say, serverNow } from "./said.js";
+import { dropEnds, dropOver, say, serverNow } from "./said.js";
 import { ask } from "./enter.js";
 import { focusKeys, setEnded } from "./keys.js";
 import { Lane } from "./lanes.js";
@@ -110,6 +110,7 @@ export function showGroup(told) {
   $("at").textContent = group.seat === null ? "at no node of this machine" : `at ${group.name}`;
   $("waits").textContent = waits();
   showDue();
+  dropOver(group.flow);
   dropEnds(group.nodes.filter((it) => ["up", "leads"].includes(it.state)).map((it) => it.node));
   drawLanes();
 }

@@ -24,6 +24,11 @@ export function dropEnds(up) {
   if ($("note").className === "away" && ended && up.includes(+ended[1])) $("note").hidden = true;
 }
 
+// That all goes on again goes from there once the program stands still once more.
+export function dropOver(flow) {
+  if (flow === "waits" && $("note").className === "over") $("note").hidden = true;
+}
+
 // That a node is asked goes from there once one leads.
 export function dropAsked(when) {
   led = when;
