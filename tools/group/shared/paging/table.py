@@ -172,7 +172,12 @@ class Table:
         said, self.unsaid = self.unsaid, []
         for kind, text in said:
             self.is_lossy = self.is_lossy or kind in LOSSES
-            self.note_sentence(kind, still_of(text, is_still))
+            self.note_sentence(kind, still_of(text, is_still or self.has_led(text)))
+
+    def has_led(self, text):
+        """Whether the node that a sentence begins with was seen to lead last."""
+        return any(it["state"] == "leads" and text.startswith(f"Node {it['node']} ")
+                   for it in self.group["nodes"])
 
     def note_sentence(self, kind, text):
         self.said += 1
