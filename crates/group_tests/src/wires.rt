@@ -190,7 +190,7 @@ impl<'a> Player<'a> {
     }
 
     fn turn(&mut self, network: &mut Network) {
-        if self.host.turn(network).is_err() {
+        if self.host.turn(network, None).is_err() {
             self.is_wrong = true;
         }
     }

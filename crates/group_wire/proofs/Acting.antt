@@ -25,7 +25,7 @@ use Rattle.group_node.specs.NodeCalls.{Running, call_of_campaign, running}
 use Rattle.group_wire.specs.Doings.{ActsBy, DoesAll, DoesOnWire, Doing, Fails, HasActed, after_fate, after_heard, deed_of, hearing, last_receiving, prompt_in, prompts_of, receives, sent_of, ticked_if, ticking, transfers_of}
 use Rattle.group_wire.specs.Traffic.{Traffic, grown}
 use Rattle.group_wire.specs.Campaigns.{HasCampaigned}
-use Rattle.group_wire.specs.Turns.{HasFailedAt, HasHeard, HasTurned, HearsSome, TellsOfOne}
+use Rattle.group_wire.specs.Turns.{HasFailedAt, HasHeard, HasTurned, HearsSome, TellsOfOne, is_made}
 use Rattle.group_wire.proofs.Carrying.{grown_twice, passed_then}
 use Rattle.group_wire.proofs.Hearing.{after_came}
 
@@ -128,29 +128,29 @@ abbrev turn_run : Doing
 turn_run = record { deed = Run TURN_STEPS; given = []; sent = []; typed = [] }
 
 -- it has stopped then exactly if it had before, which it had not
-turn_stops : {S : Type 0} {kind : StoreKind S} {old new : NodeState S} {from to : Option Traffic} (done : Turned)
-    → HasTurned kind old new from to (Ok done) → (new.protocol.is_stopped ≡ true) ↔ ((old.protocol.is_stopped ≡ true) ⊎ ⊥)
+turn_stops : {S : Type 0} {kind : StoreKind S} {rested : Option ℕ} {old new : NodeState S} {from to : Option Traffic} (done : Turned)
+    → HasTurned kind rested old new from to (Ok done) → (new.protocol.is_stopped ≡ true) ↔ ((old.protocol.is_stopped ≡ true) ⊎ ⊥)
 turn_stops done h = grind (arith, h.stops, h.stopped)
 
 -- the deeds of a turn that was not refused
-turn_acts : {S : Type 0} {kind : StoreKind S} {old new : NodeState S} {from to : Option Traffic} (done : Turned)
-    → HasTurned kind old new from to (Ok done) → IsReplay (input new.protocol.known) new.progress
+turn_acts : {S : Type 0} {kind : StoreKind S} {rested : Option ℕ} {old new : NodeState S} {from to : Option Traffic} (done : Turned)
+    → HasTurned kind rested old new from to (Ok done) → IsReplay (input new.protocol.known) new.progress
     → HasActed old new from to (Run TURN_STEPS ∷ [])
 turn_acts {S} {kind} {old} {new} {from} {to} done h replay =
     let me : Me = old.protocol.known.me in
     let w : Running = running old in
     let after : Running = record w { known = after_heard w.known (heard_of h.came) } in
-    let ticked : Running = record w { known = (ticked_if done.ticked after.known).node } in
+    let ticked : Running = record w { known = (ticked_if (is_made done.tick) after.known).node } in
     let ended : (h.ending ≡ NoneCame) ⊎ (h.ending ≡ GoesOn) = elim h.hears.ended [ inl none ↦ inl none | inr goes ↦ inr goes.0 ] in
     let heard = hearing_does me w h.came h.ending h.plays.arrivals.fates ended in
-    let all = does_then me w _ _ after ticked heard (tick_does me after done.ticked) in
+    let all = does_then me w _ _ after ticked heard (tick_does me after (is_made done.tick)) in
     let runs : DoesOnWire me ticked (Run TURN_STEPS) turn_run (running new) =
     (done.ran, h.plays.known, rw h.plays.known at h.runs, rw h.plays.known at replay, refl, (refl, refl)) in
     let hears : List Doing = hearing me w.known h.came h.ending in
-    let ticks : List Doing = ticking me done.ticked after.known in
+    let ticks : List Doing = ticking me (is_made done.tick) after.known in
     let ds : List Doing = hears ++ ticks in
     let unprompted =
-    prompts_then hears ticks (hearing_unprompted me w.known h.came h.ending) (tick_unprompted me done.ticked after.known) in (
+    prompts_then hears ticks (hearing_unprompted me w.known h.came h.ending) (tick_unprompted me (is_made done.tick) after.known) in (
       ds ++ turn_run ∷ [],
       record {
         me = h.me;
@@ -183,8 +183,8 @@ hears_fails kind came (Refuses bytes m) {old} {new} ends h =
     )
 
 -- the deeds of a turn, by its answer
-pub turn_acts_by : {S : Type 0} {kind : StoreKind S} {old new : NodeState S} {from to : Option Traffic}
-    (result : Result Turned NodeFault) → HasTurned kind old new from to result
+pub turn_acts_by : {S : Type 0} {kind : StoreKind S} {rested : Option ℕ} {old new : NodeState S} {from to : Option Traffic}
+    (result : Result Turned NodeFault) → HasTurned kind rested old new from to result
     → IsReplay (input new.protocol.known) new.progress → ActsBy kind old new from to (Run TURN_STEPS ∷ []) [] result
 turn_acts_by (Ok done) h replay = turn_acts done h replay
 turn_acts_by {kind = kind} (Err Store) h replay = hears_fails kind h.came h.ending (h.hears.fault refl) (record {

@@ -58,7 +58,7 @@ after_fate n NoMessage = n
 
 -- A fate that a datagram may have at the node `n`: a message is lost only where the node may need
 -- memory for it.
--- Forbids: A Refused that is lost, and so is a message that the node ignores.
+-- Forbids: a Refused that is lost; a message that is lost and that the node would ignore.
 abbrev pub MayHaveFate : Known → Fate → Type 0
 MayHaveFate n (Hears m) = Unit {0}
 MayHaveFate n (Loses m) = NeedsMemory n m.sender m.body

@@ -1,15 +1,19 @@
 -- A turn of a node on its wire: the messages that it hears, a tick, and a run of its machine.
-use Rattle.std.specs.Prelude.{◌≡◌, ◌≢◌, ◌⊎◌, ◌↔◌, ◌≤◌, Bool, true, false, List, [], ◌∷◌, ◌++◌, All, length, Option, None, Result, Ok, Err, IfErr, IfOk, IsErr, IsErrOf, OnErr, OnOk, ℕ, take}
+use Rattle.std.specs.Prelude.{◌≡◌, ◌≢◌, ◌⊎◌, ◌↔◌, ◌<◌, ◌≤◌, Bool, true, false, List, [], ◌∷◌, ◌++◌, All, length, Option, None, Some, Result, Ok, Err, IfErr, IfOk, IsErr, IsErrOf, OnErr, OnOk, ℕ, take}
 use Rattle.paxos_msg.specs.Batches.{Msg, Record}
+use Rattle.paxos_acceptor.specs.Answers.{place_after}
 use Rattle.paxos_acceptor.specs.Stores.{CountsIf, IsOneOf, StoreKind}
 use Rattle.group_protocol.specs.declared.fault.NodeFault.{NodeFault}
 use Rattle.group_protocol.specs.declared.fault.NodeFault.TheVariants.{Stopped, Store}
+use Rattle.group_protocol.specs.Known.{Known, front}
 use Rattle.group_protocol.specs.Protocol.{on_message}
 use Rattle.group_protocol.specs.Calls.{RefusesIfStopped}
 use Rattle.group_node.specs.Output.{RunsOn, Progress}
 use Rattle.group_node.specs.States.{NodeState, input}
 use Rattle.group_wire.specs.declared.answers.Received.{Received}
 use Rattle.group_wire.specs.declared.answers.Received.TheVariants as answer
+use Rattle.group_wire.specs.declared.answers.Tick.{Tick}
+use Rattle.group_wire.specs.declared.answers.Tick.TheVariants as tick
 use Rattle.group_wire.specs.declared.answers.Turned.{Turned}
 use Rattle.group_wire.specs.declared.limits.TheConstants.{MOST_RECEIVES, TURN_STEPS}
 use Rattle.group_wire.specs.Arrivals.{Arrival, Ending, EndsAt, Fate, GoesOn, Hears, IsFateOf, IsSpelledEnding, IsUnheard, Loses, NoMessage, NoneCame, TooLong, heard_of, lost_of, received}
@@ -70,11 +74,34 @@ pub record IsWireTurn {S : Type 0} (came : List Arrival) (ending : Ending)
       ++ ticking old.protocol.known.me ticks
       (after_heard old.protocol.known (heard_of came))))
 
+-- ---- when a turn ticks
+
+-- The node knows of nothing that is under way: none of its own keys waits, and the last place at
+-- which it has voted, if there is one, is the one below its known front.
+-- Allows: a place that others have learned, of which it has not heard.
+abbrev pub IsSettled : Known → Type 0
+IsSettled n = (n.waiting ≡ []) × (place_after n.kept.votes ≡ front n)
+
+-- Whether the tick of a turn is due at a node that knows this, once it has heard what came. After a
+-- rest it is not if a place was learned since the rest began, and the node is settled: then its
+-- Ask would ask for what nobody has. `rested` is the known front at the begin of the rest, if the
+-- node has rested.
+-- Allows: a tick for which memory runs out.
+abbrev pub IsTickDue : Option ℕ → Known → Type 0
+IsTickDue None n = Unit {0}
+IsTickDue (Some rested) n = ¬ ((rested < front n) × IsSettled n)
+
 -- ---- what the answers say
+
+-- True where a tick was made.
+abbrev pub is_made : Tick → Bool
+is_made tick.Made = true
+is_made tick.Lost = false
+is_made tick.NotDue = false
 
 -- True where the answer of a turn says that the node ticked.
 abbrev pub has_ticked : Result Turned NodeFault → Bool
-has_ticked (Ok done) = done.ticked
+has_ticked (Ok done) = is_made done.tick
 has_ticked (Err e) = false
 
 -- The answer for a datagram with this fate.
@@ -159,17 +186,21 @@ pub record HasHeard {S : Type 0} (kind : StoreKind S)
 
 -- A node and its wire after a turn, with the answer.
 -- At `Ok` the machine has run for at most 1,000 steps on the learned input after the tick, and the
--- answer says why the run ended, whether there was a tick, and how many messages were lost. After a
--- refusal there was no tick and no step. The turn is `Stopped` exactly if a save had failed before,
--- and otherwise refused only as `Store`. After a refusal the node is stopped, after `Ok` it is not.
--- One more fault is counted exactly at `Store`.
-pub record HasTurned {S : Type 0} (kind : StoreKind S)
+-- answer says why the run ended, what became of the tick, and how many messages were lost. The tick
+-- is left out exactly if it is not due, or since memory ran out. After a refusal there was no tick
+-- and no step. The turn is `Stopped` exactly if a save had failed before, and otherwise refused
+-- only as `Store`. After a refusal the node is stopped, after `Ok` it is not. One more fault is
+-- counted exactly at `Store`.
+-- Forbids: a tick that is not due.
+pub record HasTurned {S : Type 0} (kind : StoreKind S) (rested : Option ℕ)
     (old new : NodeState S) (from to : Option Traffic) (result : Result Turned NodeFault)
     : Type 0 where
   pub came : List Arrival
   pub ending : Ending
   pub plays : IsWireTurn came ending old new from to (has_ticked result)
   pub hears : HearsOut kind came ending new result
+  pub due : IfOk result (λ done. (done.tick ≢ tick.NotDue)
+      ↔ IsTickDue rested (after_heard old.protocol.known (heard_of came)))
   pub lost : IfOk result (λ done. done.lost ≡ lost_of came)
   pub me : new.protocol.known.me ≡ old.protocol.known.me
   pub runs : IfOk result (λ done.

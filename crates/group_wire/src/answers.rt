@@ -14,13 +14,24 @@ pub enum Received {
     Message,
 }
 
+/// What became of the tick of a turn.
+#[derive(Clone, Copy, Debug, PartialEq, Eq)]
+pub enum Tick {
+    /// The node ticked.
+    Made,
+    /// Memory ran out for it. Nothing has changed.
+    Lost,
+    /// It was not due (`IsTickDue`).
+    NotDue,
+}
+
 /// The result of a turn.
 #[derive(Clone, Copy, Debug, PartialEq, Eq)]
 pub struct Turned {
     /// Why the run of the machine ended.
     pub ran: Ran,
-    /// True if the node ticked, and false if memory ran out at the tick.
-    pub ticked: bool,
+    /// What became of the tick.
+    pub tick: Tick,
     /// The number of messages that were lost because memory ran out.
     pub lost: u32,
 }

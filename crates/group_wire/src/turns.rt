@@ -1,27 +1,52 @@
 //! The turns of a node on its wire, and its receives between them.
-ghost use Rattle.std.specs.Prelude.{◌≡◌, ◌≢◌, List, [], ◌∷◌, true, Option, Some, IfErr, IfOk, OnErr, OnOk};
+ghost use Rattle.std.specs.Prelude.{◌≡◌, ◌≢◌, ◌↔◌, List, [], ◌∷◌, true, Option, Some, IfErr, IfOk, IsTrue, OnErr, OnOk};
 ghost use Rattle.group_node.specs.Deeds.{Run};
 ghost use Rattle.group_node.specs.Output.{RunsOn};
 ghost use Rattle.group_node.specs.States.{input};
+ghost use Rattle.group_wire.specs.declared.answers.Tick.TheVariants as tick;
 ghost use Rattle.group_wire.specs.declared.limits.TheConstants.{TURN_STEPS};
 ghost use Rattle.group_wire.specs.Arrivals.{Arrival, Ending, lost_of};
-ghost use Rattle.group_wire.specs.Turns.{SameReleased, IsRefusedIfStopped, FailsAtEnd, HasHeard, HasTurned, HearsOut, HearsSome, IsHearingRefused, TellsOfOne};
+ghost use Rattle.group_wire.specs.Turns.{SameReleased, IsRefusedIfStopped, FailsAtEnd, HasHeard, HasTurned, HearsOut, HearsSome, IsHearingRefused, IsSettled, IsTickDue, TellsOfOne, is_made};
 ghost use Rattle.group_wire.specs.Doings.{ActsBy, ticked_if, ticking, transfers_of};
 ghost use Rattle.group_wire.specs.Traffic.{Receives, Traffic, grown};
 
-use crate::answers::{Received, Turned};
+use crate::answers::{Received, Tick, Turned};
 use crate::host::Host;
 use crate::limits::{MOST_RECEIVES, TURN_STEPS};
 use crate::sending::send_all;
 use crate::told::Told;
 use crate::wire::Wire;
-use group_node::{NodeFault, Ran};
+use group_node::{Node, NodeFault, Ran};
 use group_protocol::laws::{calls_keep_what_is_learned, what_goes_out_fits};
 use paxos_acceptor::Store;
 use paxos_learner::laws::input_grows;
 use paxos_msg::decode;
 use paxos_msg::limits::LONGEST_DATAGRAM;
 use pcode_machine::laws::output_only_grows;
+
+/// Returns true if the node knows of nothing that is under way: none of its keys waits, and the last
+/// place at which it has voted, if there is one, is the one below its known front.
+fn is_settled<S: Store>(node: &Node<'_, S>) -> bool
+    ensures { IsTrue result ↔ IsSettled node.now.protocol.known }
+{
+    let front = node.known_front();
+    let is_last_known = match node.record().votes.as_slice().last() {
+        Some(vote) => vote.place.checked_add(1) == Some(front),
+        None => front == 0,
+    };
+    is_last_known && node.waiting() == 0
+}
+
+/// Returns true if the tick of a turn is due at this node. `rested` is its known front at the begin
+/// of its rest, if it has rested.
+fn is_tick_due<S: Store>(node: &Node<'_, S>, rested: Option<u32>) -> bool
+    ensures { IsTrue result ↔ IsTickDue rested node.now.protocol.known }
+{
+    match rested {
+        None => true,
+        Some(front) => front >= node.known_front() || !is_settled(node),
+    }
+}
 
 /// Returns `Ok` for `Memory`, and `Err` for any other fault: a call that ran out of memory is left
 /// out, and no refusal.
@@ -104,14 +129,16 @@ impl<'a, S: Store> Host<'a, S> {
         Ok(lost)
     }
 
-    /// Ticks, and passes what the node sends to the wire. Returns false if memory ran out; then
-    /// nothing has changed.
-    fn tick<T: Wire>(&mut self, wire: &mut T) -> Result<bool, NodeFault>
-        ensures known { IfOk result (λ ticks.
-            self.new.protocol.known ≡ (ticked_if ticks self.old.protocol.known).node) }
-        ensures traffic { IfOk result (λ ticks. T.traffic wire.new
+    /// Ticks, if the tick is due, and passes what the node sends to the wire. If memory runs out
+    /// nothing changes.
+    fn tick<T: Wire>(&mut self, wire: &mut T, rested: Option<u32>) -> Result<Tick, NodeFault>
+        ensures due { IfOk result (λ done.
+            (done ≢ tick.NotDue) ↔ IsTickDue rested self.old.protocol.known) }
+        ensures known { IfOk result (λ done.
+            self.new.protocol.known ≡ (ticked_if (is_made done) self.old.protocol.known).node) }
+        ensures traffic { IfOk result (λ done. T.traffic wire.new
             ≡ grown (T.traffic wire.old) (transfers_of self.old.protocol.known.me
-            (ticking self.old.protocol.known.me ticks self.old.protocol.known))) }
+            (ticking self.old.protocol.known.me (is_made done) self.old.protocol.known))) }
         ensures err { OnErr result
             ((self.new.protocol.known ≡ self.old.protocol.known)
             × (T.traffic wire.new ≡ T.traffic wire.old)) }
@@ -121,13 +148,19 @@ impl<'a, S: Store> Host<'a, S> {
         ensures store { self.new.protocol.store ≡ self.old.protocol.store }
         ensures progress { self.new.progress ≡ self.old.progress }
     {
+        if self.node.is_stopped() {
+            return Err(NodeFault::Stopped);
+        }
+        if !is_tick_due(&self.node, rested) {
+            return Ok(Tick::NotDue);
+        }
         if let Err(fault) = self.node.tick(&mut self.outbox) {
             unless_memory(fault)?;
-            return Ok(false);
+            return Ok(Tick::Lost);
         }
         wire.tell(&Told::Ticked);
         send_all(wire, &mut self.outbox, self.group.size);
-        Ok(true)
+        Ok(Tick::Made)
     }
 
     /// Runs the machine for at most 1,000 steps. Returns why the run ended.
@@ -143,15 +176,15 @@ impl<'a, S: Store> Host<'a, S> {
     }
 
     /// Takes a turn, as `turn` says.
-    fn take_turn<T: Wire>(&mut self, wire: &mut T) -> Result<Turned, NodeFault>
-        ensures turned { HasTurned S.kind self.old self.new (T.traffic wire.old)
+    fn take_turn<T: Wire>(&mut self, wire: &mut T, rested: Option<u32>) -> Result<Turned, NodeFault>
+        ensures turned { HasTurned S.kind rested self.old self.new (T.traffic wire.old)
             (T.traffic wire.new) result }
     {
         let lost = self.hear_all(wire)?;
-        let ticked = self.tick(wire)?;
+        let tick = self.tick(wire, rested)?;
         let ran = self.run()?;
         wire.tell(&Told::Ran(TURN_STEPS));
-        Ok(Turned { ran, ticked, lost })
+        Ok(Turned { ran, tick, lost })
     }
 
     /// Receives once from `wire` between turns, as a turn does, without tick and steps
@@ -178,10 +211,16 @@ impl<'a, S: Store> Host<'a, S> {
         self.hear_next(wire, &mut buffer)
     }
 
-    /// Takes a turn on `wire`: receives until no datagram is there, at most 64 times, then ticks,
-    /// then runs the machine for at most 1,000 steps (`HasTurned`). What these calls send goes to
-    /// `wire`, in order. Returns why the run ended, whether the node ticked, and how many messages
-    /// were lost.
+    /// Takes a turn on `wire`: receives until no datagram is there, at most 64 times, then ticks if
+    /// the tick is due, then runs the machine for at most 1,000 steps (`HasTurned`). What these
+    /// calls send goes to `wire`, in order. Returns why the run ended, what became of the tick, and
+    /// how many messages were lost.
+    ///
+    /// `rested` is the known front of the node when it began to rest before this turn, or `None` if
+    /// it has not rested. The tick is due unless a place was learned since then, none of the node's
+    /// keys waits, and the last place at which it has voted is the one below its known front
+    /// (`IsTickDue`): what such a tick sends would ask for what nobody has. With `None` the tick is
+    /// always due.
     ///
     /// Fails with `Stopped` exactly if a save had failed before, or with `Store` if one fails now.
     /// The node hears each message of the group that a datagram spells, in order, but for those
@@ -194,8 +233,8 @@ impl<'a, S: Store> Host<'a, S> {
     /// the last datagram that came; the node is what the messages before it left, and an honest
     /// store has that node's record or that of the message's response. After a refusal there is no
     /// tick and no step, and the node is stopped; after `Ok` it is not.
-    pub fn turn<T: Wire>(&mut self, wire: &mut T) -> Result<Turned, NodeFault>
-        ensures turned { HasTurned S.kind self.old self.new (T.traffic wire.old)
+    pub fn turn<T: Wire>(&mut self, wire: &mut T, rested: Option<u32>) -> Result<Turned, NodeFault>
+        ensures turned { HasTurned S.kind rested self.old self.new (T.traffic wire.old)
             (T.traffic wire.new) result }
         ensures acts { ActsBy S.kind self.old self.new (T.traffic wire.old) (T.traffic wire.new)
             (Run TURN_STEPS ∷ []) [] result }
@@ -206,7 +245,7 @@ impl<'a, S: Store> Host<'a, S> {
         output_only_grows();
         // The machine is where a replay from the start is.
         self.unreleased();
-        let turned = self.take_turn(wire);
+        let turned = self.take_turn(wire, rested);
         // And so it is after the turn.
         self.unreleased();
         turned

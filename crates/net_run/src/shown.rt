@@ -153,7 +153,7 @@ impl<'a, H: Clock + Files + AllocGlobal> ShownNode<'a, H> {
         deeds_go_on::<MemoryStore>();
         self.wire.begin_rest(self.host.node().known_front());
         self.wire.wait();
-        let turned = self.host.turn(&mut self.wire)?;
+        let turned = self.host.turn(&mut self.wire, None)?;
         self.show_output()?;
         let end = end_to_note(self.has_ended, turned.ran.end());
         self.has_ended = self.has_ended || end.is_some();

@@ -1,7 +1,8 @@
 -- The cycles of a run, by what each call of it did.
-use Rattle.std.proofs.Common.{◌≡◌, ℕ, suc, inl, inr, List, [], Option, Ok, Err, refl}
+use Rattle.std.proofs.Common.{◌≡◌, ℕ, suc, inl, inr, List, [], Option, Some, Ok, Err, refl}
 use Rattle.paxos_acceptor.specs.Stores.{StoreKind}
 use Rattle.group_protocol.specs.declared.fault.NodeFault.{NodeFault}
+use Rattle.group_protocol.specs.Known.{front}
 use Rattle.group_node.specs.States.{NodeState}
 use Rattle.group_udp.specs.declared.fault.GroupFault.{GroupFault}
 use Rattle.group_udp.specs.declared.fault.GroupFault.TheVariants as group
@@ -13,7 +14,9 @@ use Rattle.group_wire.specs.Turns.{HasHeard, HasTurned}
 use Rattle.node_run.specs.declared.answering.Answered.{Answered}
 use Rattle.node_run.specs.Answering.{AnswersWhatCame, HasAnsweredKeyboard}
 use Rattle.node_run.specs.Cycles.{EndsBeforeRelease, HearsTimes, HearsOnce, HearsAtRest, Rests, TurnsOnce, run_moment}
+use Rattle.node_run.specs.declared.retries.Retried.{Retried}
 use Rattle.node_run.specs.Going.{Around, around}
+use Rattle.node_run.specs.Retries.{HasRetried}
 
 -- ---- receives
 
@@ -36,65 +39,92 @@ module _ {S : Type 0} (kind : StoreKind S) where
 
 module _ {S : Type 0} (kind : StoreKind S) (written : Option (List ℕ)) where
   -- a rest
-  rested : {old new : NodeState S} {t u : Option Traffic} {keys left : KeyboardState}
+  rested : {old new : NodeState S} {t u : Option Traffic} {keys left : KeyboardState} {retries : ℕ}
       → (times : ℕ) × HearsTimes kind times old new t u → GivesWhatCame keys [] left
-      → Rests kind (run_moment old (around t keys) written) (run_moment new (around u left) written)
-  rested (times, hears) looks = record { times = times; hears = hears; looks = looks; unwritten = refl }
+      → Rests kind (run_moment old (around t keys retries) written) (run_moment new (around u left retries) written)
+  rested (times, hears) looks = record { times = times; hears = hears; looks = looks; retries = refl; unwritten = refl }
 
   -- one that was refused
-  pub rest_ended : {old new : NodeState S} {t u : Option Traffic} {keys left : KeyboardState} {e : GroupFault}
+  pub rest_ended : {old new : NodeState S} {t u : Option Traffic} {keys left : KeyboardState} {retries : ℕ} {e : GroupFault}
       → HearsAtRest {T = Unit {0}} kind old new t u (Err e) → GivesWhatCame keys [] left
-      → EndsBeforeRelease kind (run_moment old (around t keys) written) (run_moment new (around u left) written) e
-  rest_ended {left = left} (times, mid, via, hears, last) looks = inl (record {
-    rested = run_moment mid (around via left) written;
-    rests = record { times = times; hears = hears; looks = looks; unwritten = refl };
+      → EndsBeforeRelease kind (run_moment old (around t keys retries) written) (run_moment new (around u left retries) written) e
+  rest_ended {left = left} {retries} (times, mid, via, hears, last) looks = inl (record {
+    rested = run_moment mid (around via left retries) written;
+    rests = record { times = times; hears = hears; looks = looks; retries = refl; unwritten = refl };
     hears = last;
     untyped = refl;
+    retries = refl;
     unwritten = refl;
   })
 
-  module _ {old mid : NodeState S} {t u : Option Traffic} {keys seen : KeyboardState}
+  module _ {old mid : NodeState S} {t u : Option Traffic} {keys seen : KeyboardState} {retries : ℕ}
       (rest : (times : ℕ) × HearsTimes kind times old mid t u)
       (looks : GivesWhatCame keys [] seen) where
-    -- the answer to the keyboard that was refused
-    pub answer_ended : {new : NodeState S} {to : Around} {e : GroupFault}
-        → HasAnsweredKeyboard kind mid new (around u seen) to (Err e)
-        → EndsBeforeRelease kind (run_moment old (around t keys) written) (run_moment new to written) e
-    answer_ended did = inr (inl (record {
-      rested = run_moment mid (around u seen) written;
+    -- a campaign once more that was refused
+    pub retry_refused : {new : NodeState S} {to : Around} {e : GroupFault}
+        → HasRetried kind mid new (around u seen retries) to (Err e)
+        → EndsBeforeRelease kind (run_moment old (around t keys retries) written) (run_moment new to written) e
+    retry_refused did = inr (inl (record {
+      rested = run_moment mid (around u seen retries) written;
       rests = rested rest looks;
       did = did;
       unwritten = refl;
     }))
 
-    module _ {typed : NodeState S} {via : Around} (answer : Answered)
-        (did : AnswersWhatCame kind answer mid typed (around u seen) via) where
-      -- a turn that was refused
-      pub turn_ended : {new : NodeState S} {to : Option Traffic} {e : GroupFault} → (f : NodeFault)
-          × HasTurned kind typed new via.traffic to (Err f) × (e ≡ group.Node f)
-          → EndsBeforeRelease kind (run_moment old (around t keys) written) (run_moment new (around to via.keyboard) written) e
-      turn_ended (f, turned, is) = inr (inr (record {
-        rested = run_moment mid (around u seen) written;
-        answered = run_moment typed via written;
-        answer = answer;
+    module _ {tried : NodeState S} {after : Around} (retried : Retried)
+        (again : HasRetried kind mid tried (around u seen retries) after (Ok retried)) where
+      -- the answer to the keyboard that was refused
+      pub answer_ended : {new : NodeState S} {to : Around} {e : GroupFault}
+          → HasAnsweredKeyboard kind tried new after to (Err e)
+          → EndsBeforeRelease kind (run_moment old (around t keys retries) written) (run_moment new to written) e
+      answer_ended did = inr (inr (inl (record {
+        rested = run_moment mid (around u seen retries) written;
+        tried = run_moment tried after written;
+        retried = retried;
         rests = rested rest looks;
-        answers = record { did = did; unwritten = refl };
-        fault = f;
-        did = turned;
-        is = is;
-        untyped = refl;
+        campaigns = record { did = again; unwritten = refl };
+        did = did;
         unwritten = refl;
-      }))
+      })))
 
-      -- a turn
-      pub turned_once : {new : NodeState S} {to : Option Traffic} {turned : Turned} → HasTurned kind typed new via.traffic to (Ok turned)
-          → TurnsOnce kind (run_moment old (around t keys) written) (run_moment new (around to via.keyboard) written)
-      turned_once {turned = turned} turn = record {
-        rested = run_moment mid (around u seen) written;
-        answered = run_moment typed via written;
-        answer = answer;
-        turned = turned;
-        rests = rested rest looks;
-        answers = record { did = did; unwritten = refl };
-        turns = record { did = turn; untyped = refl; unwritten = refl };
-      }
+      module _ {typed : NodeState S} {via : Around} (answer : Answered)
+          (did : AnswersWhatCame kind answer tried typed after via) where
+        -- a turn that was refused
+        pub turn_ended : {new : NodeState S} {to : Option Traffic} {e : GroupFault} → (f : NodeFault)
+            × HasTurned kind (Some (front old.protocol.known)) typed new via.traffic to (Err f) × (e ≡ group.Node f)
+            → EndsBeforeRelease kind (run_moment old (around t keys retries) written)
+            (run_moment new (around to via.keyboard via.retries) written) e
+        turn_ended (f, turned, is) = inr (inr (inr (record {
+          rested = run_moment mid (around u seen retries) written;
+          tried = run_moment tried after written;
+          answered = run_moment typed via written;
+          retried = retried;
+          answer = answer;
+          rests = rested rest looks;
+          campaigns = record { did = again; unwritten = refl };
+          answers = record { did = did; unwritten = refl };
+          fault = f;
+          did = turned;
+          is = is;
+          untyped = refl;
+          retries = refl;
+          unwritten = refl;
+        })))
+
+        -- a turn
+        pub turned_once : {new : NodeState S} {to : Option Traffic} {turned : Turned}
+            → HasTurned kind (Some (front old.protocol.known)) typed new via.traffic to (Ok turned)
+            → TurnsOnce kind (run_moment old (around t keys retries) written)
+            (run_moment new (around to via.keyboard via.retries) written)
+        turned_once {turned = turned} turn = record {
+          rested = run_moment mid (around u seen retries) written;
+          tried = run_moment tried after written;
+          answered = run_moment typed via written;
+          retried = retried;
+          answer = answer;
+          turned = turned;
+          rests = rested rest looks;
+          campaigns = record { did = again; unwritten = refl };
+          answers = record { did = did; unwritten = refl };
+          turns = record { did = turn; untyped = refl; retries = refl; unwritten = refl };
+        }

@@ -1,5 +1,5 @@
 -- Calls of a node, one after the other: their deeds, and what it was prompted to do.
-use Rattle.std.proofs.Common.{◌≡◌, ◌≢◌, ◌∙◌, zero-add, ◌⊎◌, inl, inr, Bool, true, ℕ, ◌+◌, ◌<◌, ◌≤◌, List, [], ◌∷◌, ◌++◌, drop, length, min, take, map, Option, Some, None, Result, Ok, Err, refl, sym, ap, arith, append_assoc, append-nil}
+use Rattle.std.proofs.Common.{◌≡◌, ◌≢◌, ◌∙◌, zero-add, ◌⊎◌, inl, inr, Bool, true, ℕ, ◌+◌, ◌*◌, ◌<◌, ◌≤◌, List, [], ◌∷◌, ◌++◌, drop, length, min, take, map, Option, Some, None, Result, Ok, Err, refl, sym, ap, arith, append_assoc, append-nil}
 use Rattle.std.proofs.Math.Seq.{drop-append_seam, take-append_seam}
 use Rattle.std.proofs.lemmas.Grind.{common_steps, flat_map-append}
 use Rattle.std.proofs.lemmas.List.{drop_all, length-append, take-append-drop}
@@ -95,17 +95,18 @@ gift_both {a} {b} {c} {g} {h} first second = record {
 -- ---- prompts
 
 -- nothing was lost
-pub prompted : {gift prompts : List Deed} {turns : ℕ} {spent : Type 0} → bytes_in gift ≡ bytes_in prompts
-    → campaigns_in prompts ≤ campaigns_in gift → turns_in prompts ≡ turns → IsPrompted gift turns spent prompts
+pub prompted : {gift prompts : List Deed} {turns had left : ℕ} {spent : Type 0} → bytes_in gift ≡ bytes_in prompts
+    → campaigns_in prompts + left ≤ campaigns_in gift * 4 + had → turns_in prompts ≡ turns
+    → IsPrompted gift turns had left spent prompts
 prompted {prompts = prompts} typed few made =
     record { lost = []; typed = typed ∙ sym (append-nil (bytes_in prompts)); all = λ _. refl; campaigns = few; made = made }
 
-pub prompted_none : {spent : Type 0} → IsPrompted [] 0 spent []
+pub prompted_none : {spent : Type 0} {retries : ℕ} → IsPrompted [] 0 retries retries spent []
 prompted_none = prompted refl (omega arith) refl
 
 -- the same where more may be lost
-pub prompted_if : {gift prompts : List Deed} {turns : ℕ} {a b : Type 0} → (a → b) → IsPrompted gift turns a prompts
-    → IsPrompted gift turns b prompts
+pub prompted_if : {gift prompts : List Deed} {turns had left : ℕ} {a b : Type 0} → (a → b) → IsPrompted gift turns had left a prompts
+    → IsPrompted gift turns had left b prompts
 prompted_if f h = grind (arith, h.lost)
 
 -- typed bytes prompt for nothing else
@@ -134,16 +135,16 @@ left_given room n given old new is long all =
     (grind (arith, common_steps, typed, drop_all, drop-append_seam given new.bytes)) (grind (arith, no_campaign))
 
 -- bytes that are typed, and others that are lost
-pub prompted_lost : {spent : Type 0} (typed lost : List ℕ) → (¬ spent → lost ≡ [])
-    → IsPrompted (map Press (typed ++ lost)) 0 spent (map Press typed)
+pub prompted_lost : {spent : Type 0} {retries : ℕ} (typed lost : List ℕ) → (¬ spent → lost ≡ [])
+    → IsPrompted (map Press (typed ++ lost)) 0 retries retries spent (map Press typed)
 prompted_lost typed lost all = grind (arith, pressed typed, pressed (typed ++ lost))
 
-pub prompted_typed : (typed : List ℕ) → IsPrompted (map Press typed) 0 ⊥ (map Press typed)
-prompted_typed typed = prompted refl (omega arith) (pressed typed).2
+pub prompted_typed : {retries : ℕ} (typed : List ℕ) → IsPrompted (map Press typed) 0 retries retries ⊥ (map Press typed)
+prompted_typed typed = prompted refl (grind (arith, pressed typed)) (pressed typed).2
 
 -- some prompts, and then others
-prompted_both : {g h p q : List Deed} {t u : ℕ} {spent : Type 0} → IsPrompted g t ⊥ p → IsPrompted h u spent q
-    → IsPrompted (g ++ h) (t + u) spent (p ++ q)
+prompted_both : {g h p q : List Deed} {t u had mid left : ℕ} {spent : Type 0} → IsPrompted g t had mid ⊥ p
+    → IsPrompted h u mid left spent q → IsPrompted (g ++ h) (t + u) had left spent (p ++ q)
 prompted_both {g} {h} {p} {q} first second =
     let none = append-nil (bytes_in p) in
     grind (arith, second.lost, first.all, flat_map-append byte_in, append_assoc, none, filter-append, length-append)
@@ -191,21 +192,23 @@ module _ {S : Type 0} {kind : StoreKind S} (laws : GoOn kind) where
 
 -- these prompts, while nothing was taken from the keyboard
 pub gone_unprompted : {S : Type 0} {first : List Deed} {old new : NodeState S} {from to : Option Traffic} {keys left : KeyboardState}
-    → HasActed old new from to first → GivesWhatCame keys [] left → HasGoneOn first old new (around from keys) (around to left) 0
+    {retries : ℕ} → HasActed old new from to first → GivesWhatCame keys [] left
+    → HasGoneOn first old new (around from keys retries) (around to left retries) 0
 gone_unprompted {first = first} acts looks =
     record { gift = []; prompts = []; given = looks; acts = rw (append-nil first) acts; prompted = prompted_none }
 
 -- a turn
-pub gone_turn : {S : Type 0} {old new : NodeState S} {from to : Option Traffic} (steps : ℕ) {keys : KeyboardState}
-    → HasActed old new from to (Run steps ∷ []) → HasGoneOn [] old new (around from keys) (around to keys) 1
+pub gone_turn : {S : Type 0} {old new : NodeState S} {from to : Option Traffic} (steps : ℕ) {keys : KeyboardState} {retries : ℕ}
+    → HasActed old new from to (Run steps ∷ []) → HasGoneOn [] old new (around from keys retries) (around to keys retries) 1
 gone_turn steps {keys} acts =
     record { gift = []; prompts = Run steps ∷ []; given = gift_none keys; acts = acts; prompted = prompted refl (omega arith) refl }
 
 -- these prompts without the keyboard, up to a refusal
 ended_unprompted : {S : Type 0} {kind : StoreKind S} {first : List Deed} {old new : NodeState S} {from to : Option Traffic}
-    {keys left : KeyboardState} {e : GroupFault} → GivesWhatCame keys [] left → (e ≡ group.Node Store → Fails kind old new from to first)
+    {keys left : KeyboardState} {retries : ℕ} {e : GroupFault} → GivesWhatCame keys [] left
+    → (e ≡ group.Node Store → Fails kind old new from to first)
     → (e ≢ group.Node Store → HasActed old new from to first) → HasReason e new.protocol.known
-    → HasEnded kind first old new (around from keys) (around to left) 0 e
+    → HasEnded kind first old new (around from keys retries) (around to left retries) 0 e
 ended_unprompted {first = first} looks fails acts due = record {
   gift = [];
   prompts = [];
@@ -218,9 +221,9 @@ ended_unprompted {first = first} looks fails acts due = record {
 
 -- a save failed at these prompts
 pub save_ended : {S : Type 0} {kind : StoreKind S} {old new : NodeState S} {from to : Option Traffic}
-    {keys left : KeyboardState} {e : GroupFault} {gift prompts : List Deed} → FailsAt kind old new from to prompts e
-    → GivesWhatCame keys gift left
-    → IsPrompted gift 0 (e ≡ group.Node SerialSpent) prompts → HasEnded kind [] old new (around from keys) (around to left) 0 e
+    {keys seen : KeyboardState} {had left : ℕ} {e : GroupFault} {gift prompts : List Deed} → FailsAt kind old new from to prompts e
+    → GivesWhatCame keys gift seen → IsPrompted gift 0 had left (e ≡ group.Node SerialSpent) prompts
+    → HasEnded kind [] old new (around from keys had) (around to seen left) 0 e
 save_ended {gift = gift} {prompts} h given prompted = grind (arith, gift, prompts)
 
 -- a refusal is of a save, or not
@@ -249,19 +252,19 @@ gone_ended h other due = grind (arith, h.gift, h.prompts)
 
 -- the cycles after it, by their answer
 pub begun_by : {S : Type 0} {kind : StoreKind S} (laws : GoOn kind) {old mid : NodeState S} {t u : Option Traffic} {first : List Deed}
-    (new : NodeState S)
-    (keys : KeyboardState) (to : Around) (turns : ℕ) (result : Result (Unit {0}) GroupFault) → HasActed old mid t u first
-    → HasGone kind [] mid new (around u keys) to turns result → HasGone kind first old new (around t keys) to turns result
-begun_by laws new keys to turns (Ok x) begun h = rw zero-add at (gone_then laws (gone_unprompted begun (gift_none keys)) h)
-begun_by laws new keys to turns (Err e) begun h = inl (elim h [
+    (new : NodeState S) (keys : KeyboardState) (retries : ℕ)
+    (to : Around) (turns : ℕ) (result : Result (Unit {0}) GroupFault) → HasActed old mid t u first
+    → HasGone kind [] mid new (around u keys retries) to turns result → HasGone kind first old new (around t keys retries) to turns result
+begun_by laws new keys retries to turns (Ok x) begun h = rw zero-add at (gone_then laws (gone_unprompted begun (gift_none keys)) h)
+begun_by laws new keys retries to turns (Err e) begun h = inl (elim h [
   | inl k ↦ (k.0, k.1, rw zero-add at (ended_then laws (gone_unprompted begun (gift_none keys)) k.2))
   | inr k ↦ (0, omega arith, ended_then laws (gone_unprompted begun (gift_none keys)) k.2)
 ])
 
 -- a campaign of the plan that was refused
 pub campaign_refused : {S : Type 0} {kind : StoreKind S} {old new : NodeState S} {t u : Option Traffic} {keys : KeyboardState}
-    {asked : Bool} {turns : ℕ} {e : GroupFault} → CampaignsIf kind asked old new t u (Err e) → IsCampaignRefusal e
-    → HasGone {T = Unit {0}} kind (planned asked) old new (around t keys) (around u keys) turns (Err e)
+    {retries : ℕ} {asked : Bool} {turns : ℕ} {e : GroupFault} → CampaignsIf kind asked old new t u (Err e) → IsCampaignRefusal e
+    → HasGone {T = Unit {0}} kind (planned asked) old new (around t keys retries) (around u keys retries) turns (Err e)
 campaign_refused {old = old} {new} {t} {u} {keys} {asked} {e = e} (is, fails, acts, due) refusal = elim (is_store e) [
   | inl store ↦
       inl (0, omega arith, ended_unprompted (gift_none keys) (λ s. rw is (fails s)) (λ other. absurd (other store)) due)

@@ -1,5 +1,5 @@
 -- What a keyboard gives, and what is typed of it.
-use Rattle.std.proofs.Common.{◌≡◌, ◌∙◌, inl, inr, ℕ, ◌+◌, ◌<◌, ◌≤◌, nat_lt, true, false, IfOk, List, [], ◌∷◌, ◌++◌, length, map, Option, Result, Ok, Err, refl, sym, ap, subst, arith, append-nil}
+use Rattle.std.proofs.Common.{◌≡◌, ◌∙◌, inl, inr, ℕ, ◌+◌, ◌*◌, ◌<◌, ◌≤◌, nat_lt, true, false, IfOk, OnErr, List, [], ◌∷◌, ◌++◌, length, map, Option, Result, Ok, Err, refl, sym, ap, subst, arith, append-nil}
 use Rattle.std.proofs.lemmas.Bool.Decides.{nat_tests}
 use Rattle.std.proofs.lemmas.List.{length-append, nil_from_length}
 use Rattle.paxos_acceptor.specs.Stores.{StoreKind}
@@ -15,9 +15,13 @@ use Rattle.group_udp.specs.declared.fault.GroupFault.TheVariants as group
 use Rattle.node_run.specs.declared.answering.Answered.{Answered}
 use Rattle.node_run.specs.declared.answering.Answered.TheVariants.{Bytes, Campaigned, CampaignRefused, Ignored}
 use Rattle.node_run.specs.Going.{Around, HasEnded, HasGoneOn, HasReason, around}
-use Rattle.node_run.specs.Answering.{AnswersSeen, AnswersWhatCame, HasCampaignedAsAsked, HasAnsweredKeyboard, HasTypedGiven, left_once_answered, left_once_given, room_of}
+use Rattle.node_run.specs.Answering.{AnswersSeen, AnswersWhatCame, HasCampaignedAsAsked, HasAnsweredKeyboard, HasTypedGiven, left_once_answered, left_once_given, retries_after, room_of}
+use Rattle.node_run.specs.declared.retries.Retried.{Retried}
+use Rattle.node_run.specs.declared.retries.Retried.TheVariants as again
+use Rattle.node_run.specs.Retries.{HasRetried, retries_unless_leading}
+use Rattle.group_protocol.specs.Known.{Known}
 use Rattle.group_udp.specs.Prompts.{GivesWhatCame, HasGiven, KeyboardState, Remaining, before_gift}
-use Rattle.node_run.proofs.Going.{gift_both, given_both, gives_now, not_given, prompted, prompted_lost, prompted_typed, same_left, save_ended}
+use Rattle.node_run.proofs.Going.{gift_both, gift_none, given_both, gives_now, not_given, prompted, prompted_lost, prompted_typed, same_left, save_ended}
 
 -- where all of some bytes have room, none is left
 none_left : {S : Type 0} {old new : NodeState S} {before after : List ℕ} → HasPressed old new before after (Ok tt)
@@ -41,48 +45,74 @@ typed_some {after = after} {from} to e h (typed, whole, acts) same works given =
 
 -- ---- what the node did with it
 
+-- it may not campaign again more often
+fewer_unless_leading : (retries : ℕ) (n : Known) → 0 + retries_unless_leading retries n ≤ 0 * 4 + retries
+fewer_unless_leading retries n = grind arith
+
 pub answered_on : {S : Type 0} (kind : StoreKind S) {old new : NodeState S} {from to : Around} (answered : Answered)
     → HasAnsweredKeyboard kind old new from to (Ok answered) → HasGoneOn [] old new from to 0
-answered_on kind Bytes (typed, given, acts) =
-    record { gift = map Press typed; prompts = map Press typed; given = given; acts = acts; prompted = prompted_typed typed }
-answered_on kind Campaigned (given, asked) =
-    record { gift = Campaign ∷ []; prompts = Campaign ∷ []; given = given; acts = asked.1; prompted = prompted refl (omega arith) refl }
-answered_on kind Ignored (given, asked) =
-    record { gift = Campaign ∷ []; prompts = []; given = given; acts = asked.1; prompted = prompted refl (omega arith) refl }
-answered_on kind (CampaignRefused f) (given, refused) =
-    record { gift = Campaign ∷ []; prompts = []; given = given; acts = refused.4; prompted = prompted refl (omega arith) refl }
+answered_on kind Bytes (again, typed, given, acts) =
+    record { gift = map Press typed; prompts = map Press typed; given = given; acts = acts; prompted = rw again (prompted_typed typed) }
+answered_on kind Campaigned (again, given, asked) =
+    record { gift = Campaign ∷ []; prompts = Campaign ∷ []; given = given; acts = asked.1; prompted = prompted refl (omega (arith, again)) refl }
+answered_on kind Ignored (again, given, asked) =
+    record { gift = Campaign ∷ []; prompts = []; given = given; acts = asked.1; prompted = prompted refl (omega (arith, again)) refl }
+answered_on kind (CampaignRefused f) (again, given, refused) =
+    record { gift = Campaign ∷ []; prompts = []; given = given; acts = refused.4; prompted = prompted refl (omega (arith, again)) refl }
+
+-- a campaign once more, by its answer
+pub retried_on : {S : Type 0} (kind : StoreKind S) {old new : NodeState S} {from to : Around} (retried : Retried)
+    → HasActed old old from.traffic from.traffic [] → HasRetried kind old new from to (Ok retried) → HasGoneOn [] old new from to 0
+retried_on kind {old} {from = from} again.NotDue none (not, same, is) = rw (same, is) (record {
+  gift = [];
+  prompts = [];
+  given = gift_none from.keyboard;
+  acts = none;
+  prompted = prompted refl (fewer_unless_leading from.retries old.protocol.known) refl;
+})
+retried_on kind {from = from} again.Campaigned none (due, keyboard, fewer, acts) =
+    record { gift = []; prompts = Campaign ∷ []; given = rw keyboard (gift_none from.keyboard); acts = acts; prompted = prompted refl (omega (arith, fewer)) refl }
+retried_on kind {from = from} (again.CampaignRefused f) none (due, keyboard, spent, refused, works, other, acts) =
+    record { gift = []; prompts = []; given = rw keyboard (gift_none from.keyboard); acts = acts; prompted = prompted refl (omega (arith, spent)) refl }
+
+-- one at which a save failed
+pub retry_ended : {S : Type 0} (kind : StoreKind S) {old new : NodeState S} {from to : Around} {e : GroupFault}
+    → HasRetried kind old new from to (Err e) → HasEnded kind [] old new from to 0 e
+retry_ended kind {from = from} (due, keyboard, fewer, fails) =
+    save_ended {gift = []} fails (rw keyboard (gift_none from.keyboard)) (prompted refl (omega (arith, fewer)) refl)
 
 -- typing that spent the serials
 typing_ended : {S : Type 0} {kind : StoreKind S} {old new : NodeState S} (passed : Option Traffic)
-    {from to : KeyboardState} {e : GroupFault}
+    {from to : KeyboardState} {retries : ℕ} {e : GroupFault}
     (typed lost : List ℕ) → e ≡ group.Node SerialSpent → GivesWhatCame from (map Press (typed ++ lost)) to → HasReason e new.protocol.known
     → ((passed : Option Traffic) → HasActed old new passed passed (map Press typed))
-    → HasEnded kind [] old new (around passed from) (around passed to) 0 e
-typing_ended passed typed lost spent given due acts =
-    let same = prompted_lost typed lost (λ not. absurd (not spent)) in
+    → HasEnded kind [] old new (around passed from retries) (around passed to retries) 0 e
+typing_ended passed {retries = retries} typed lost spent given due acts =
+    let same = prompted_lost {retries = retries} typed lost (λ not. absurd (not spent)) in
     grind (arith, map Press (typed ++ lost), map Press typed, acts passed, same)
 
 -- a campaign that was asked for, by its answer
 pub asked_answered : (S : Type 0) (kind : StoreKind S) (old new : NodeState S) (from to : Option Traffic)
-    (keys left : KeyboardState) (result : Result Answered GroupFault)
+    (keys left : KeyboardState) (had has : ℕ) (result : Result Answered GroupFault)
     → HasCampaignedAsAsked kind old new from to result → GivesWhatCame keys (Campaign ∷ []) left
-    → HasAnsweredKeyboard kind old new (around from keys) (around to left) result
-asked_answered S kind old new from to keys left (Ok Bytes) h given = absurd h
-asked_answered S kind old new from to keys left (Ok Campaigned) h given = (given, h)
-asked_answered S kind old new from to keys left (Ok Ignored) h given = (given, h)
-asked_answered S kind old new from to keys left (Ok (CampaignRefused f)) h given = (given, h)
-asked_answered S kind old new from to keys left (Err e) (missing, h) given =
-    (inl h.store, save_ended {gift = Campaign ∷ []} h given (prompted refl (omega arith) refl))
+    → IfOk result (λ answer. has ≡ retries_after answer had) → OnErr result (has ≡ had)
+    → HasAnsweredKeyboard kind old new (around from keys had) (around to left has) result
+asked_answered S kind old new from to keys left had has (Ok Bytes) h given again same = absurd h
+asked_answered S kind old new from to keys left had has (Ok Campaigned) h given again same = (again, given, h)
+asked_answered S kind old new from to keys left had has (Ok Ignored) h given again same = (again, given, h)
+asked_answered S kind old new from to keys left had has (Ok (CampaignRefused f)) h given again same = (again, given, h)
+asked_answered S kind old new from to keys left had has (Err e) (missing, h) given again same =
+    (inl h.store, save_ended {gift = Campaign ∷ []} h given (prompted refl (omega (arith, same)) refl))
 
 -- typing, where no campaign was asked for
 pub bytes_answered : {S : Type 0} (kind : StoreKind S) {old new : NodeState S} (at : Option Traffic)
-    {keys : KeyboardState} (left via : KeyboardState) → HasTypedGiven old new via left (Ok tt) → GivesWhatCame keys [] via
-    → HasAnsweredKeyboard kind old new (around at keys) (around at left) (Ok Bytes)
-bytes_answered kind at left via (typed, given, acts) none = (typed, gift_both none (gives_now given), acts at)
+    {keys : KeyboardState} {retries : ℕ} (left via : KeyboardState) → HasTypedGiven old new via left (Ok tt) → GivesWhatCame keys [] via
+    → HasAnsweredKeyboard kind old new (around at keys retries) (around at left retries) (Ok Bytes)
+bytes_answered kind at left via (typed, given, acts) none = (refl, typed, gift_both none (gives_now given), acts at)
 
 pub bytes_refused : {S : Type 0} (kind : StoreKind S) {old new : NodeState S} (at : Option Traffic)
-    {keys : KeyboardState} (left via : KeyboardState) {e : GroupFault} → HasTypedGiven old new via left (Err e)
-    → GivesWhatCame keys [] via → HasAnsweredKeyboard kind old new (around at keys) (around at left) (Err e)
+    {keys : KeyboardState} {retries : ℕ} (left via : KeyboardState) {e : GroupFault} → HasTypedGiven old new via left (Err e)
+    → GivesWhatCame keys [] via → HasAnsweredKeyboard kind old new (around at keys retries) (around at left retries) (Err e)
 bytes_refused kind at left via (typed, lost, spent, given, due, acts) none =
     (inr spent, typing_ended at typed lost spent (gift_both none (gives_now given)) due acts)
 
@@ -111,25 +141,27 @@ by_answer kind old new t u (CampaignRefused f) given h = (given, h)
 
 -- a request was there
 pub answered_request : {S : Type 0} (kind : StoreKind S) (old new : NodeState S) (t u : Option Traffic) {keys seen left : KeyboardState}
-    (result : Result Answered GroupFault) → GivesWhatCame keys [] seen → HasGiven seen (Campaign ∷ []) left
-    → HasCampaignedAsAsked kind old new t u result
-    → IfOk result (λ answer. AnswersWhatCame kind answer old new (around t keys) (around u left))
-answered_request kind old new t u {seen = seen} {left} (Ok answer) look given h = record {
+    (had has : ℕ) (result : Result Answered GroupFault) → GivesWhatCame keys [] seen → HasGiven seen (Campaign ∷ []) left
+    → HasCampaignedAsAsked kind old new t u result → IfOk result (λ answer. has ≡ retries_after answer had)
+    → IfOk result (λ answer. AnswersWhatCame kind answer old new (around t keys had) (around u left has))
+answered_request kind old new t u {seen = seen} {left} had has (Ok answer) look given h again = record {
   seen = seen;
   looks = look;
   did = by_answer kind old new t u answer given h;
   all = sym (request_taken (room_of old) left.left) ∙ ap (left_once_answered (room_of old)) (sym given.whole);
+  again = again;
 }
-answered_request kind old new t u (Err e) look given h = tt
+answered_request kind old new t u had has (Err e) look given h again = tt
 
 -- none was there
 pub answered_bytes : {S : Type 0} (kind : StoreKind S) {old new : NodeState S} (at : Option Traffic)
-    {keys seen via left : KeyboardState} → GivesWhatCame keys [] seen → HasGiven seen [] via → ¬ (0 < seen.left.requests)
+    {keys seen via left : KeyboardState} {retries : ℕ} → GivesWhatCame keys [] seen → HasGiven seen [] via → ¬ (0 < seen.left.requests)
     → left.left ≡ left_once_given (room_of old) via.left → HasTypedGiven old new via left (Ok tt)
-    → AnswersWhatCame kind Bytes old new (around at keys) (around at left)
+    → AnswersWhatCame kind Bytes old new (around at keys retries) (around at left retries)
 answered_bytes kind {old} at {seen = seen} look given none all (typed, typed_of, acts) = record {
   seen = seen;
   looks = look;
   did = (typed, given_both given typed_of, acts at);
   all = all ∙ ap (left_once_given (room_of old)) (not_given given) ∙ sym (none_taken (room_of old) seen.left none);
+  again = refl;
 }

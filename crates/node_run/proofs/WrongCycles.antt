@@ -47,9 +47,9 @@ module _ {S : Type 0} (kind : StoreKind S) where
       let left = left_same answer a b bytes requests is same h in
       grind (arith, some, ap (λ (l : Remaining). l.requests) left)
 
-  pub no_steps : (turned : Turned) (a b : RunMoment S) → turned.ran ≡ More → a.node.progress.steps + 1 < 2 ^ 64
-      → b.node.progress ≡ a.node.progress → ¬ TakesTurn kind turned a b
-  no_steps turned a b more spare same h =
+  pub no_steps : (begun : ℕ) (turned : Turned) (a b : RunMoment S) → turned.ran ≡ More → a.node.progress.steps + 1 < 2 ^ 64
+      → b.node.progress ≡ a.node.progress → ¬ TakesTurn kind begun turned a b
+  no_steps begun turned a b more spare same h =
       let x : List ℕ = input b.node.protocol.known in
       let runs : RunsOn x TURN_STEPS a.node.progress b.node.progress turned.ran = h.did.runs in
       let over : b.node.progress.steps ≡ most_of a.node.progress.steps TURN_STEPS =

@@ -15,6 +15,7 @@ use Rattle.group_udp.specs.declared.fault.GroupFault.TheVariants as group
 use Rattle.node_run.specs.declared.answering.Answered.{Answered}
 use Rattle.node_run.specs.declared.answering.Answered.TheVariants.{Bytes, Campaigned, CampaignRefused, Ignored}
 use Rattle.node_run.specs.Going.{Around, FailsAt, HasEnded, HasReason}
+use Rattle.node_run.specs.declared.limits.TheConstants.{MOST_RETRIES}
 use Rattle.group_udp.specs.Prompts.{GivesWhatCame, HasGiven, KeyboardState, Remaining}
 use Rattle.group_udp.specs.Refusals.{IsCycleRefusal}
 
@@ -80,6 +81,14 @@ AnswersSeen kind Bytes old new from to seen left =
 AnswersSeen kind answer old new from to seen left =
     HasGiven seen (Campaign ∷ []) left × HasCampaignedAsAsked kind old new from to (Ok answer)
 
+-- How often a node may campaign again once its keyboard was answered so: three times after a
+-- campaign that was asked for, and never if there was no such campaign.
+abbrev pub retries_after : Answered → ℕ → ℕ
+retries_after Bytes retries = retries
+retries_after Campaigned retries = MOST_RETRIES
+retries_after Ignored retries = 0
+retries_after (CampaignRefused f) retries = 0
+
 -- A keyboard that is looked at, and then answered by what it has: by a request, if one is there, or
 -- else by all bytes for which the node has room.
 -- Forbids: a request that is there and passed over; a byte for which there is room, likewise.
@@ -89,16 +98,18 @@ pub record AnswersWhatCame {S : Type 0} (kind : StoreKind S) (answer : Answered)
   pub looks : GivesWhatCame from.keyboard [] seen
   pub did : AnswersSeen kind answer old new from.traffic to.traffic seen to.keyboard
   pub all : to.keyboard.left ≡ left_once_answered (room_of old) seen.left
+  pub again : to.retries ≡ retries_after answer from.retries
 
 -- What happens at a keyboard before a turn: typing of what it gave, or a campaign that it asked
 -- for, as the answer says.
 abbrev pub HasAnsweredKeyboard : {S : Type 0} → StoreKind S → NodeState S → NodeState S
     → Around → Around → Result Answered GroupFault → Type 0
 HasAnsweredKeyboard kind old new from to (Ok Bytes) =
-    (typed : List ℕ) × GivesWhatCame from.keyboard (map Press typed) to.keyboard
+    (to.retries ≡ from.retries) × (typed : List ℕ) × GivesWhatCame from.keyboard (map Press typed) to.keyboard
     × HasActed old new from.traffic to.traffic (map Press typed)
 HasAnsweredKeyboard kind old new from to (Ok answer) =
-    GivesWhatCame from.keyboard (Campaign ∷ []) to.keyboard
+    (to.retries ≡ retries_after answer from.retries)
+    × GivesWhatCame from.keyboard (Campaign ∷ []) to.keyboard
     × HasCampaignedAsAsked kind old new from.traffic to.traffic (Ok answer)
 HasAnsweredKeyboard kind old new from to (Err e) =
     IsCycleRefusal e × HasEnded kind [] old new from to 0 e

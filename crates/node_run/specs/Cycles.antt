@@ -1,7 +1,8 @@
 -- A run of a node as its cycles: what a cycle is, and the list of them.
-use Rattle.std.specs.Prelude.{◌≡◌, ◌<◌, ◌⊎◌, ℕ, zero, suc, List, [], Option, Result, Ok, Err}
+use Rattle.std.specs.Prelude.{◌≡◌, ◌<◌, ◌⊎◌, ℕ, zero, suc, List, [], Option, Some, Result, Ok, Err}
 use Rattle.paxos_acceptor.specs.Stores.{StoreKind}
 use Rattle.group_protocol.specs.declared.fault.NodeFault.{NodeFault}
+use Rattle.group_protocol.specs.Known.{front}
 use Rattle.group_node.specs.States.{NodeState}
 use Rattle.group_udp.specs.declared.fault.GroupFault.{GroupFault}
 use Rattle.group_udp.specs.declared.fault.GroupFault.TheVariants as group
@@ -12,9 +13,11 @@ use Rattle.group_wire.specs.Traffic.{Traffic}
 use Rattle.group_wire.specs.Turns.{HasHeard, HasTurned}
 use Rattle.node_run.specs.declared.answering.Answered.{Answered}
 use Rattle.node_run.specs.declared.cycles.RunPlan.{RunPlan}
+use Rattle.node_run.specs.declared.retries.Retried.{Retried}
 use Rattle.node_run.specs.Answering.{AnswersWhatCame, HasAnsweredKeyboard}
 use Rattle.node_run.specs.Going.{Around, CampaignsIf}
 use Rattle.node_run.specs.Releases.{HasReleased}
+use Rattle.node_run.specs.Retries.{HasRetried}
 
 -- A moment of a run: the node, what is around it, and what its writer holds.
 pub record RunMoment (S : Type 0) : Type 0 where
@@ -60,6 +63,13 @@ pub record Rests {S : Type 0} (kind : StoreKind S) (a b : RunMoment S) : Type 0 
   pub times : ℕ
   pub hears : HearsTimes kind times a.node b.node a.around.traffic b.around.traffic
   pub looks : GivesWhatCame a.around.keyboard [] b.around.keyboard
+  pub retries : b.around.retries ≡ a.around.retries
+  pub unwritten : b.written ≡ a.written
+
+-- The node campaigns once more for a request, if that is due.
+pub record CampaignsAgain {S : Type 0} (kind : StoreKind S) (retried : Retried)
+    (a b : RunMoment S) : Type 0 where
+  pub did : HasRetried kind a.node b.node a.around b.around (Ok retried)
   pub unwritten : b.written ≡ a.written
 
 -- The keyboard is looked at and answered: the node campaigns, or types all bytes for which it has
@@ -69,11 +79,14 @@ pub record AnswersKeyboard {S : Type 0} (kind : StoreKind S) (answer : Answered)
   pub did : AnswersWhatCame kind answer a.node b.node a.around b.around
   pub unwritten : b.written ≡ a.written
 
--- A turn: the node hears, ticks, and runs its machine.
-pub record TakesTurn {S : Type 0} (kind : StoreKind S) (turned : Turned) (a b : RunMoment S)
-    : Type 0 where
-  pub did : HasTurned kind a.node b.node a.around.traffic b.around.traffic (Ok turned)
+-- A turn: the node hears, ticks if that is due, and runs its machine. The tick is due unless a
+-- place was learned since the known front was at `begun`, and the node is settled.
+pub record TakesTurn {S : Type 0} (kind : StoreKind S) (begun : ℕ) (turned : Turned)
+    (a b : RunMoment S) : Type 0 where
+  pub did :
+      HasTurned kind (Some begun) a.node b.node a.around.traffic b.around.traffic (Ok turned)
   pub untyped : b.around.keyboard ≡ a.around.keyboard
+  pub retries : b.around.retries ≡ a.around.retries
   pub unwritten : b.written ≡ a.written
 
 -- A release of output, with its answer.
@@ -85,15 +98,23 @@ pub record ReleasesOutput {S : Type 0} (seen : ℕ) (a b : RunMoment S)
 
 -- ---- a cycle, and many
 
--- A cycle up to its release: a rest, the keyboard, and a turn.
+-- The known front of the node at a moment.
+abbrev pub front_at : {S : Type 0} → RunMoment S → ℕ
+front_at a = front a.node.protocol.known
+
+-- A cycle up to its release: a rest, a campaign once more if one is due, the keyboard, and a turn,
+-- which ticks unless a place was learned since the cycle began, and the node is settled.
 pub record TurnsOnce {S : Type 0} (kind : StoreKind S) (a b : RunMoment S) : Type 0 where
   pub rested : RunMoment S
+  pub tried : RunMoment S
   pub answered : RunMoment S
+  pub retried : Retried
   pub answer : Answered
   pub turned : Turned
   pub rests : Rests kind a rested
-  pub answers : AnswersKeyboard kind answer rested answered
-  pub turns : TakesTurn kind turned answered b
+  pub campaigns : CampaignsAgain kind retried rested tried
+  pub answers : AnswersKeyboard kind answer tried answered
+  pub turns : TakesTurn kind (front_at a) turned answered b
 
 -- A cycle: then all output that waits is released, and written from number `seen` on.
 pub record IsCycle {S : Type 0} (kind : StoreKind S) (seen : ℕ) (a b : RunMoment S) : Type 0 where
@@ -117,35 +138,53 @@ pub record EndsAtRest {S : Type 0} (kind : StoreKind S) (a b : RunMoment S) (e :
   pub hears : HearsOnce {T = Unit {0}} kind rested.node b.node rested.around.traffic
       b.around.traffic (Err e)
   pub untyped : b.around.keyboard ≡ rested.around.keyboard
+  pub retries : b.around.retries ≡ rested.around.retries
+  pub unwritten : b.written ≡ rested.written
+
+-- A campaign once more is refused: a save fails in it.
+pub record EndsAtRetry {S : Type 0} (kind : StoreKind S) (a b : RunMoment S) (e : GroupFault)
+    : Type 0 where
+  pub rested : RunMoment S
+  pub rests : Rests kind a rested
+  pub did : HasRetried kind rested.node b.node rested.around b.around (Err e)
   pub unwritten : b.written ≡ rested.written
 
 -- The answer to the keyboard is refused.
 pub record EndsAtKeyboard {S : Type 0} (kind : StoreKind S) (a b : RunMoment S) (e : GroupFault)
     : Type 0 where
   pub rested : RunMoment S
+  pub tried : RunMoment S
+  pub retried : Retried
   pub rests : Rests kind a rested
-  pub did : HasAnsweredKeyboard kind rested.node b.node rested.around b.around (Err e)
-  pub unwritten : b.written ≡ rested.written
+  pub campaigns : CampaignsAgain kind retried rested tried
+  pub did : HasAnsweredKeyboard kind tried.node b.node tried.around b.around (Err e)
+  pub unwritten : b.written ≡ tried.written
 
 -- The turn is refused: a save fails at what it hears.
 pub record EndsAtTurn {S : Type 0} (kind : StoreKind S) (a b : RunMoment S) (e : GroupFault)
     : Type 0 where
   pub rested : RunMoment S
+  pub tried : RunMoment S
   pub answered : RunMoment S
+  pub retried : Retried
   pub answer : Answered
   pub rests : Rests kind a rested
-  pub answers : AnswersKeyboard kind answer rested answered
+  pub campaigns : CampaignsAgain kind retried rested tried
+  pub answers : AnswersKeyboard kind answer tried answered
   pub fault : NodeFault
-  pub did : HasTurned kind answered.node b.node answered.around.traffic b.around.traffic (Err fault)
+  pub did : HasTurned kind (Some (front_at a)) answered.node b.node answered.around.traffic
+      b.around.traffic (Err fault)
   pub is : e ≡ group.Node fault
   pub untyped : b.around.keyboard ≡ answered.around.keyboard
+  pub retries : b.around.retries ≡ answered.around.retries
   pub unwritten : b.written ≡ answered.written
 
 -- A cycle that is refused before its release.
 abbrev pub EndsBeforeRelease : {S : Type 0} → StoreKind S → RunMoment S → RunMoment S → GroupFault
     → Type 0
 EndsBeforeRelease kind a b e =
-    EndsAtRest kind a b e ⊎ (EndsAtKeyboard kind a b e ⊎ EndsAtTurn kind a b e)
+    EndsAtRest kind a b e
+    ⊎ (EndsAtRetry kind a b e ⊎ (EndsAtKeyboard kind a b e ⊎ EndsAtTurn kind a b e))
 
 -- A cycle up to its release, by its answer.
 abbrev pub TurnsOrEnds : {S T : Type 0} → StoreKind S → RunMoment S → RunMoment S
@@ -182,6 +221,7 @@ pub record Begins {S : Type 0} (kind : StoreKind S) (plan : RunPlan) (a b : RunM
     (result : Result (Unit {0}) GroupFault) : Type 0 where
   pub did : CampaignsIf kind plan.campaigns a.node b.node a.around.traffic b.around.traffic result
   pub untyped : b.around.keyboard ≡ a.around.keyboard
+  pub retries : b.around.retries ≡ a.around.retries
   pub unwritten : b.written ≡ a.written
 
 -- A run of this plan from the start of its node on: the campaign of the plan is refused; or it is

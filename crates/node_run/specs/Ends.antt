@@ -27,14 +27,15 @@ RefusesUnwritten why before after result =
     (e : GroupFault) × why e × (after ≡ before) × (result ≡ Err e)
 
 -- A run over a store in a file, whose wire is a socket: what passes over it is unknown. `from` and
--- `to` are the keyboard before and after. Or memory is missing.
+-- `to` are the keyboard before and after. Or memory is missing. At first no request was made, so
+-- that the node may not campaign again for one.
 abbrev pub RunsOverFile : Me → Parts → NodePlan → KeyboardState → KeyboardState
     → Option (List ℕ) → Option (List ℕ) → Result (Unit {0}) GroupFault → Type 0
 RunsOverFile me program plan from to before after result =
     RefusesUnwritten (λ e. e ≡ no_memory) before after result
-    ⊎ ((end : FileKnowledge)
+    ⊎ ((end : FileKnowledge) × (retries : ℕ)
     × RunsOrRefuses file_kind me program (record { me = me; found = None; faults = 0 }) end
-    plan.run (around None from) (around None to) before after result)
+    plan.run (around None from 0) (around None to retries) before after result)
 
 -- Such a run once its sockets are open, with this keyboard; or none, since a socket or memory is
 -- missing.

@@ -16,21 +16,24 @@ use Rattle.group_udp.specs.Prompts.{GivesWhatCame, KeyboardState}
 use Rattle.node_run.specs.Prompted.{IsPrompted}
 use Rattle.node_run.specs.declared.endpoints.Endpoints.{Endpoints}
 
--- What is around a node: what has passed over its wire, where that is known, and its keyboard.
+-- What is around a node: what has passed over its wire, where that is known, its keyboard, and how
+-- often it may campaign again for the last request.
 pub record Around : Type 0 where
   pub traffic : Option Traffic
   pub keyboard : KeyboardState
+  pub retries : ℕ
 
--- These two, put together.
-abbrev pub around : Option Traffic → KeyboardState → Around
-around traffic keyboard = record { traffic = traffic; keyboard = keyboard }
+-- These three, put together.
+abbrev pub around : Option Traffic → KeyboardState → ℕ → Around
+around traffic keyboard retries =
+    record { traffic = traffic; keyboard = keyboard; retries = retries }
 
--- What is around a node by its wire and its keyboard. The two functions tell what has passed over a
--- wire, and what a keyboard has left.
+-- What is around a node by its endpoints. The two functions tell what has passed over a wire, and
+-- what a keyboard has left.
 abbrev pub around_of : {T K : Type 0} → (T → Option Traffic) → (K → KeyboardState) → Endpoints T K
     → Around
 around_of traffic_of keys_of endpoints =
-    around (traffic_of endpoints.wire) (keys_of endpoints.keyboard)
+    around (traffic_of endpoints.wire) (keys_of endpoints.keyboard) endpoints.retries
 
 -- The prompts of a plan before the first turn.
 abbrev pub planned : Bool → List Deed
@@ -53,7 +56,7 @@ pub record HasGoneOn {S : Type 0} (first : List Deed) (old new : NodeState S) (f
   pub prompts : List Deed
   pub given : GivesWhatCame from.keyboard gift to.keyboard
   pub acts : HasActed old new from.traffic to.traffic (first ++ prompts)
-  pub prompted : IsPrompted gift turns ⊥ prompts
+  pub prompted : IsPrompted gift turns from.retries to.retries ⊥ prompts
 
 -- What it did up to a refusal. Exactly if a save failed, its last deed is the one that failed.
 pub record HasEnded {S : Type 0} (kind : StoreKind S) (first : List Deed) (old new : NodeState S)
@@ -64,7 +67,8 @@ pub record HasEnded {S : Type 0} (kind : StoreKind S) (first : List Deed) (old n
   pub fails : e ≡ group.Node Store
       → Fails kind old new from.traffic to.traffic (first ++ prompts)
   pub acts : e ≢ group.Node Store → HasActed old new from.traffic to.traffic (first ++ prompts)
-  pub prompted : IsPrompted gift turns (e ≡ group.Node SerialSpent) prompts
+  pub prompted : IsPrompted gift turns from.retries to.retries (e ≡ group.Node SerialSpent)
+      prompts
   pub due : HasReason e new.protocol.known
 
 -- What a node did, by the answer: so many turns at `Ok`, and at most so many up to a refusal. Where

@@ -1,6 +1,7 @@
 pub mod Output
 pub mod Going
 pub mod Answering
+pub mod Retries
 pub mod Prompted
 pub mod Releases
 pub mod Runs

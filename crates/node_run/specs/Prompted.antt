@@ -1,6 +1,7 @@
 -- What a node is prompted to do in its turns, by what its keyboard gave.
-use Rattle.std.specs.Prelude.{◌≡◌, ◌≤◌, ℕ, Bool, true, false, List, [], ◌++◌, filter, length}
+use Rattle.std.specs.Prelude.{◌≡◌, ◌≤◌, ◌+◌, ◌*◌, ℕ, Bool, true, false, List, [], ◌++◌, filter, length}
 use Rattle.group_node.specs.Deeds.{Deed, Run}
+use Rattle.node_run.specs.declared.limits.TheConstants.{MOST_RETRIES}
 use Rattle.group_udp.specs.Prompts.{bytes_in, campaigns_in}
 
 -- True of a prompt to run the machine.
@@ -14,13 +15,16 @@ turns_in prompts = length (filter is_run prompts)
 
 -- The prompts of a node in so many turns, at which its keyboard gave the prompts `gift`. What was
 -- typed is what the keyboard gave, each byte once and in order. If the serials were spent, the last
--- bytes that it gave were lost.
+-- bytes that it gave were lost. For each request it campaigns once, and up to three times more if
+-- its ballot is refused. `had` is how often it might campaign again before, and `left` how often
+-- it may now.
 -- Allows: a campaign that was asked for, and could not begin, or that a leader has ignored.
--- Forbids: a byte that is typed twice; a campaign that nobody asked for.
-pub record IsPrompted (gift : List Deed) (turns : ℕ) (spent : Type 0) (prompts : List Deed)
-    : Type 0 where
+-- Forbids: a byte that is typed twice; a campaign that nobody asked for; a fifth one for a request.
+pub record IsPrompted (gift : List Deed) (turns had left : ℕ) (spent : Type 0)
+    (prompts : List Deed) : Type 0 where
   pub lost : List ℕ
   pub typed : bytes_in gift ≡ bytes_in prompts ++ lost
   pub all : ¬ spent → lost ≡ []
-  pub campaigns : campaigns_in prompts ≤ campaigns_in gift
+  pub campaigns :
+      campaigns_in prompts + left ≤ campaigns_in gift * (1 + MOST_RETRIES) + had
   pub made : turns_in prompts ≡ turns

@@ -63,7 +63,8 @@ pub record RunsNode {S : Type 0} (kind : StoreKind S) (me : Me) (program : Parts
       × IsErrAnd result (λ e. (e ≢ group.Node Store) × IsCampaignRefusal e))
   pub gift : List Deed
   pub given : GivesWhatCame from.keyboard gift to.keyboard
-  pub follows : IsPrompted gift turns (IsErrOf result (group.Node SerialSpent)) prompts
+  pub follows : IsPrompted gift turns from.retries to.retries
+      (IsErrOf result (group.Node SerialSpent)) prompts
   pub few : turns ≤ plan.turns
   pub all : OnOk result (turns ≡ plan.turns)
   pub ends : IfErr result (IsEarlyEnd plan)

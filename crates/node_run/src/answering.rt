@@ -1,10 +1,11 @@
 //! What a node does with what its keyboard gives before a turn.
-ghost use Rattle.std.specs.Prelude.{◌≡◌, ◌<◌, ◌↔◌, false, IfOk, IsTrue, OnOk};
+ghost use Rattle.std.specs.Prelude.{◌≡◌, ◌<◌, ◌↔◌, false, IfOk, IsTrue, OnErr, OnOk};
 ghost use Rattle.group_wire.specs.Turns.{SameReleased};
 ghost use Rattle.node_run.specs.Going.{around_of};
-ghost use Rattle.node_run.specs.Answering.{AnswersWhatCame, HasAnsweredKeyboard, HasCampaignedAsAsked, HasTypedGiven, LeadsWithoutGap, left_once_given, room_of};
+ghost use Rattle.node_run.specs.Answering.{AnswersWhatCame, HasAnsweredKeyboard, HasCampaignedAsAsked, HasTypedGiven, LeadsWithoutGap, left_once_given, retries_after, room_of};
 
 use crate::endpoints::Endpoints;
+use crate::limits::MOST_RETRIES;
 use group_node::{Node, NodeFault};
 use group_protocol::limits::MOST_WAITING;
 use group_udp::{GroupFault, Keyboard};
@@ -46,6 +47,7 @@ fn type_given<T: Wire, K: Keyboard, S: Store>(
     ensures takes { (K.keys endpoints.new.keyboard).left
         ≡ left_once_given (room_of host.old) (K.keys endpoints.old.keyboard).left }
     ensures passed { T.traffic endpoints.new.wire ≡ T.traffic endpoints.old.wire }
+    ensures again { endpoints.new.retries ≡ endpoints.old.retries }
     ensures stays { SameReleased host.old host.new }
     ensures progress { host.new.progress ≡ host.old.progress }
 {
@@ -94,6 +96,31 @@ fn campaign_when_asked<T: Wire, S: Store>(
     }
 }
 
+/// Campaigns, as the keyboard has asked. If the campaign begins, the node may campaign three times
+/// more, should its ballot be refused.
+fn answer_request<T: Wire, K: Keyboard, S: Store>(
+    host: &mut Host<'_, S>,
+    endpoints: &mut Endpoints<T, K>,
+) -> Result<Answered, GroupFault>
+    requires works { host.old.protocol.is_stopped ≡ false }
+    ensures works { OnOk result (host.new.protocol.is_stopped ≡ false) }
+    ensures campaigned { HasCampaignedAsAsked S.kind host.old host.new
+        (T.traffic endpoints.old.wire) (T.traffic endpoints.new.wire) result }
+    ensures untyped { endpoints.new.keyboard ≡ endpoints.old.keyboard }
+    ensures again { IfOk result (λ answer.
+        endpoints.new.retries ≡ retries_after answer endpoints.old.retries) }
+    ensures err { OnErr result (endpoints.new.retries ≡ endpoints.old.retries) }
+    ensures stays { SameReleased host.old host.new }
+    ensures progress { host.new.progress ≡ host.old.progress }
+{
+    let answered = campaign_when_asked(host, &mut endpoints.wire)?;
+    endpoints.retries = match answered {
+        Answered::Campaigned => MOST_RETRIES,
+        _ => 0,
+    };
+    Ok(answered)
+}
+
 /// Looks at the keyboard before a turn, and campaigns if it asks for that, or types what it gives.
 /// Returns what the node did.
 pub fn answer_keyboard<T: Wire, K: Keyboard, S: Store>(
@@ -112,7 +139,7 @@ pub fn answer_keyboard<T: Wire, K: Keyboard, S: Store>(
 {
     endpoints.keyboard.look();
     if endpoints.keyboard.take_request() {
-        return campaign_when_asked(host, &mut endpoints.wire);
+        return answer_request(host, endpoints);
     }
     type_given(host, endpoints)?;
     Ok(Answered::Bytes)

@@ -14,6 +14,7 @@ use crate::answering::{Answered, answer_keyboard};
 use crate::endpoints::Endpoints;
 use crate::release::release_all;
 use crate::rest::{is_busy_after, own_turn, rest_unless_busy};
+use crate::retries::{Retried, campaign_again};
 use group_log::{Log, Note};
 use group_protocol::limits::MOST_WAITING;
 use group_udp::{CountedWire, GroupFault, Keyboard};
@@ -67,8 +68,20 @@ fn note_answered<H: Clock, K: Keyboard, S: Store, E: Write>(
     log.note_full(waiting, waiting >= MOST_WAITING && keyboard.has_bytes());
 }
 
-/// Rests, unless the node is busy; types bytes at it; and takes its turn. Returns true if the node
-/// is busy then. What was released before stays as it is.
+/// Notes what the node did about a refused ballot.
+fn note_retried<H: Clock, S: Store, E: Write>(
+    host: &Host<'_, S>,
+    retried: Retried,
+    log: &mut Log<'_, H, E>,
+) {
+    if let Retried::CampaignRefused(fault) = retried {
+        log.note(&Note::CampaignRefused(fault));
+    }
+    log.look(host.node().protocol());
+}
+
+/// Rests, unless the node is busy; campaigns again, if that is due; types bytes at it; and takes its
+/// turn. Returns true if the node is busy then. What was released before stays as it is.
 fn rest_and_turn<H: Clock, T: CountedWire, K: Keyboard, S: Store, E: Write>(
     host: &mut Host<'_, S>,
     endpoints: &mut Endpoints<T, K>,
@@ -88,11 +101,14 @@ fn rest_and_turn<H: Clock, T: CountedWire, K: Keyboard, S: Store, E: Write>(
     ensures others { IfErr result IsCycleRefusal }
 {
     deeds_go_on::<S>();
+    let begun = host.node().known_front();
     rest_unless_busy(host, endpoints, is_busy)?;
     log.look(host.node().protocol());
+    let retried = campaign_again(host, endpoints)?;
+    note_retried(host, retried, log);
     let answered = answer_keyboard(host, endpoints)?;
     note_answered(host, &endpoints.keyboard, answered, log);
-    let ran = own_turn(host, &mut endpoints.wire)?;
+    let ran = own_turn(host, &mut endpoints.wire, begun)?;
     log.look(host.node().protocol());
     log.note_program_end(ran.end());
     note_wire(&mut endpoints.wire, log);

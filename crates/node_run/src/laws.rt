@@ -50,9 +50,9 @@ pub fn wrong_cycles<S: Store>()
     ensures request_left { (answer : Answered) (a b : RunMoment S) (bytes : List ℕ) (requests : ℕ)
         → 0 < requests → a.around.keyboard ≡ closed_with bytes requests
         → b.around.keyboard ≡ a.around.keyboard → ¬ AnswersKeyboard S.kind answer a b }
-    ensures no_steps { (turned : Turned) (a b : RunMoment S) → turned.ran ≡ Ran.More
+    ensures no_steps { (begun : ℕ) (turned : Turned) (a b : RunMoment S) → turned.ran ≡ Ran.More
         → a.node.progress.steps + 1 < 2 ^ 64 → b.node.progress ≡ a.node.progress
-        → ¬ TakesTurn S.kind turned a b }
+        → ¬ TakesTurn S.kind begun turned a b }
     ensures output_left { (seen : ℕ) (a b : RunMoment S) (byte : ℕ) (bytes : List ℕ)
         → unreleased_by (running a.node) ≡ byte ∷ bytes → b.node.progress ≡ a.node.progress
         → ¬ ReleasesOutput seen a b (Ok tt) }

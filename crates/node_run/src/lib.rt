@@ -20,6 +20,7 @@ mod limits;
 mod node;
 mod release;
 mod rest;
+mod retries;
 mod run;
 mod text;
 

@@ -1,5 +1,5 @@
 //! A node's rest between two turns, and a turn.
-ghost use Rattle.std.specs.Prelude.{◌≡◌, [], ◌∷◌, false, true, Err, Ok, IfErr, IfOk, OnOk};
+ghost use Rattle.std.specs.Prelude.{◌≡◌, [], ◌∷◌, false, true, Err, Ok, Some, IfErr, IfOk, OnOk};
 ghost use Rattle.group_node.specs.Deeds.{Run};
 ghost use Rattle.group_wire.specs.declared.answers.Turned.{Turned};
 ghost use Rattle.group_wire.specs.declared.limits.TheConstants.{TURN_STEPS};
@@ -34,6 +34,7 @@ fn wait<T: RestingWire, K: Keyboard>(endpoints: &mut Endpoints<T, K>, waiting: u
     ensures passed { T.traffic endpoints.new.wire ≡ T.traffic endpoints.old.wire }
     ensures looks { GivesWhatCame (K.keys endpoints.old.keyboard) []
         (K.keys endpoints.new.keyboard) }
+    ensures retries { endpoints.new.retries ≡ endpoints.old.retries }
 {
     match endpoints.wire.wait() {
         Waited::Over => true,
@@ -71,6 +72,7 @@ fn rest_once<T: RestingWire, K: Keyboard, S: Store>(
         (T.traffic endpoints.new.wire) result }
     ensures looks { GivesWhatCame (K.keys endpoints.old.keyboard) []
         (K.keys endpoints.new.keyboard) }
+    ensures retries { endpoints.new.retries ≡ endpoints.old.retries }
     ensures stays { SameReleased host.old host.new }
     ensures progress { host.new.progress ≡ host.old.progress }
 {
@@ -100,6 +102,7 @@ fn rest<T: RestingWire, K: Keyboard, S: Store>(
         (T.traffic endpoints.new.wire) result }
     ensures looks { GivesWhatCame (K.keys endpoints.old.keyboard) []
         (K.keys endpoints.new.keyboard) }
+    ensures retries { endpoints.new.retries ≡ endpoints.old.retries }
     ensures stays { SameReleased host.old host.new }
     ensures progress { host.new.progress ≡ host.old.progress }
 {
@@ -132,6 +135,7 @@ pub fn rest_unless_busy<T: RestingWire, K: Keyboard, S: Store>(
         (T.traffic endpoints.new.wire) result }
     ensures looks { GivesWhatCame (K.keys endpoints.old.keyboard) []
         (K.keys endpoints.new.keyboard) }
+    ensures retries { endpoints.new.retries ≡ endpoints.old.retries }
     ensures stays { SameReleased host.old host.new }
     ensures progress { host.new.progress ≡ host.old.progress }
 {
@@ -155,24 +159,30 @@ pub fn is_busy_after(ran: Ran) -> bool {
     }
 }
 
-/// Takes a turn of the node on its wire. Returns why its run ended.
-pub fn own_turn<T: Wire, S: Store>(host: &mut Host<'_, S>, wire: &mut T) -> Result<Ran, GroupFault>
+/// Takes a turn of the node on its wire, whose known front was at `begun` when its cycle began.
+/// Returns why its run ended.
+pub fn own_turn<T: Wire, S: Store>(
+    host: &mut Host<'_, S>,
+    wire: &mut T,
+    begun: u32,
+) -> Result<Ran, GroupFault>
     requires works { host.old.protocol.is_stopped ≡ false }
     ensures works { OnOk result (host.new.protocol.is_stopped ≡ false) }
     ensures turned { IfOk result (λ ran. (done : Turned)
-        × HasTurned S.kind host.old host.new (T.traffic wire.old) (T.traffic wire.new)
-        (Ok done) × (ran ≡ done.ran)) }
+        × HasTurned S.kind (Some begun) host.old host.new (T.traffic wire.old)
+        (T.traffic wire.new) (Ok done) × (ran ≡ done.ran)) }
     ensures acts { OnOk result (HasActed host.old host.new (T.traffic wire.old) (T.traffic wire.new)
         (Run TURN_STEPS ∷ [])) }
     ensures refused { IfErr result
         (FailsAt S.kind host.old host.new (T.traffic wire.old) (T.traffic wire.new) []) }
     ensures fault { IfErr result (λ e. (f : NodeFault)
-        × HasTurned S.kind host.old host.new (T.traffic wire.old) (T.traffic wire.new) (Err f)
+        × HasTurned S.kind (Some begun) host.old host.new (T.traffic wire.old)
+        (T.traffic wire.new) (Err f)
         × (e ≡ group.Node f)) }
     ensures program { SameProgram host.old host.new }
     ensures stays { SameReleased host.old host.new }
 {
-    match host.turn(wire) {
+    match host.turn(wire, Some(begun)) {
         Ok(turned) => Ok(turned.ran),
         Err(fault) => Err(GroupFault::Node(fault)),
     }

@@ -158,6 +158,7 @@ fn run_over_file<
     writer: &mut W,
     log: &mut Log<'_, H, E>,
 ) -> Result<(), GroupFault>
+    requires fresh { endpoints.old.retries ≡ 0 }
     ensures ends { RunsOverFile config program.now plan.now
         (K.keys endpoints.old.keyboard) (K.keys endpoints.new.keyboard)
         (W.contents writer.old) (W.contents writer.new) result }
@@ -197,7 +198,11 @@ fn run_over_text<
     let watch = Watch::new(rt)?;
     let wire = open_wire(rt, plan, watch, log)?;
     let keyboard = Text { left: text };
-    let mut endpoints = Endpoints { wire, keyboard };
+    let mut endpoints = Endpoints {
+        wire,
+        keyboard,
+        retries: 0,
+    };
     run_over_file(rt, program, config, plan, &mut endpoints, writer, log)
 }
 
@@ -223,7 +228,11 @@ fn run_over_datagrams<
     let watch = Watch::new(rt)?;
     let keyboard = open_keyboard(rt, address, &watch, log)?;
     let wire = open_wire(rt, plan, watch, log)?;
-    let mut endpoints = Endpoints { wire, keyboard };
+    let mut endpoints = Endpoints {
+        wire,
+        keyboard,
+        retries: 0,
+    };
     run_over_file(rt, program, config, plan, &mut endpoints, writer, log)
 }
 

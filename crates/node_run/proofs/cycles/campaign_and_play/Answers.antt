@@ -16,7 +16,7 @@ returns-in_err-campaign_if-clause-goes g c =
     rw (p.1, p.2) (campaign_refused c.in_err-campaign_if.ensures.acts c.in_err-campaign_if.ensures.others)
 
 pub returns-clause-goes : goal.returns-clause-goes
-returns-clause-goes g c = begun_by c.deeds_go_on.ensures _ _ _ c.args.plan.turns c.play.result
+returns-clause-goes g c = begun_by c.deeds_go_on.ensures _ _ _ _ c.args.plan.turns c.play.result
     c.in_ok-campaign_if.ensures.acts c.play.ensures.goes
 
 pub returns-clause-none_waits : goal.returns-clause-none_waits
@@ -26,11 +26,11 @@ returns-clause-none_waits g c p begins =
 pub returns-in_err-campaign_if-clause-run : goal.returns-in_err-campaign_if-clause-run
 returns-in_err-campaign_if-clause-run g c =
     let p = err_from_is_err_and c.from_residual.result c.from_residual.ensures.1 in
-    rw (p.1, p.2) (inl (_, refl, record { did = c.in_err-campaign_if.ensures.acts; untyped = refl; unwritten = refl }))
+    rw (p.1, p.2) (inl (_, refl, record { did = c.in_err-campaign_if.ensures.acts; untyped = refl; retries = refl; unwritten = refl }))
 
 pub returns-clause-run : goal.returns-clause-run
 returns-clause-run g c = inr (
   run_moment _ _ _,
-  record { did = c.in_ok-campaign_if.ensures.acts; untyped = refl; unwritten = refl },
+  record { did = c.in_ok-campaign_if.ensures.acts; untyped = refl; retries = refl; unwritten = refl },
   c.play.ensures.cycles,
 )

@@ -9,6 +9,7 @@ loop-init g c = record {
   works = c.requires.works;
   hears = rw c.begin_rest.ensures.passed (heard_none g.S.Store.kind _ _);
   looks = gift_none _;
+  retries = refl;
   stays = refl;
   progress = refl;
 }
@@ -19,6 +20,7 @@ loop-preserved g c = record {
   works = grind arith;
   hears = heard_more g.S.Store.kind c.loop.invariant.hears c.in-Ok-false.ensures.hears;
   looks = gift_both c.loop.invariant.looks c.in-Ok-false.ensures.looks;
+  retries = grind arith;
   stays = grind arith;
   progress = grind arith;
 }

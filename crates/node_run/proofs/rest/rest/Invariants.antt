@@ -14,6 +14,7 @@ invariant-loop g l = record {
   hears : (times : ℕ) × HearsTimes g.S.Store.kind times l.initial.host l.host (g.T.Wire.traffic l.fn.endpoints.wire)
       (g.T.Wire.traffic l.endpoints.wire);
   looks : GivesWhatCame (g.K.Keyboard.keys l.fn.endpoints.keyboard) [] (g.K.Keyboard.keys l.endpoints.keyboard);
+  retries : l.endpoints.retries ≡ l.fn.endpoints.retries;
   stays : SameReleased l.initial.host l.host;
   progress : l.host.progress ≡ l.initial.host.progress;
 }

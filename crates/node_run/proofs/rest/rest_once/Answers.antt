@@ -8,6 +8,7 @@ returns-in-Ok g c = record {
   rests = search rules;
   hears = rw c.ends_rest.ensures.passed (c.in-Ok.field-0, c.in-Ok.ensures.heard);
   looks = gift_none _;
+  retries = search rules;
   stays = search rules;
   progress = search rules;
 }
@@ -18,6 +19,7 @@ returns-in-Ok-2 g c = record {
   rests = search rules;
   hears = (c.in-Ok-2.field-0, c.in-Ok-2.ensures.heard);
   looks = gift_none _;
+  retries = search rules;
   stays = search rules;
   progress = search rules;
 }

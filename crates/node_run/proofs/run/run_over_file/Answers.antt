@@ -4,5 +4,10 @@ use Rattle.node_run.proofs.run.run_over_file.Goals as goal
 
 pub returns : goal.returns
 returns g c = record {
-  ends = inr (c.run_over_disk-end.result.store.filed, over_file _ c.args.config c.args.program.now c.run_over_disk-end.ensures.ends);
+  ends = inr (
+    c.run_over_disk-end.result.store.filed,
+    _,
+    over_file _ c.args.config c.args.program.now
+        (rw c.requires.fresh at c.run_over_disk-end.ensures.ends),
+  );
 }

@@ -1,4 +1,5 @@
 use Rattle.std.proofs.Common.{◌∙◌, rules}
+use Rattle.group_wire.specs.Turns.{is_made}
 use Rattle.group_wire.proofs.Hearing.{turn_is}
 use Rattle.group_wire.proofs.host.Host.take_turn.Goals as goal
 
@@ -9,9 +10,10 @@ returns g c =
       turned = record {
         came = hears.0;
         ending = hears.1;
-        plays = turn_is {ticks = c.in_ok-ticked.ticked} {mid = c.hear_all.new.self} _ hears.2
-            (rw c.run.ensures.protocol c.in_ok-ticked.ensures.known) (c.tell.ensures.passed ∙ c.in_ok-ticked.ensures.traffic);
+        plays = turn_is {ticks = is_made c.in_ok-tick.tick} {mid = c.hear_all.new.self} _ hears.2
+            (rw c.run.ensures.protocol c.in_ok-tick.ensures.known) (c.tell.ensures.passed ∙ c.in_ok-tick.ensures.traffic);
         hears = record { few = hears.3.few; ended = hears.3.ended; fault = search rules };
+        due = search rules;
         lost = hears.4;
         me = search rules;
         runs = search rules;

@@ -1,0 +1,68 @@
+//! What a node does if the ballot is refused under which it campaigned for a request.
+ghost use Rattle.std.specs.Prelude.{◌≡◌, ◌↔◌, false, IsTrue, OnOk};
+ghost use Rattle.group_wire.specs.Turns.{SameReleased};
+ghost use Rattle.node_run.specs.Going.{around_of};
+ghost use Rattle.node_run.specs.Retries.{HasRetried, IsRefused};
+
+use crate::endpoints::Endpoints;
+use group_node::{Node, NodeFault};
+use group_udp::{GroupFault, Keyboard};
+use group_wire::laws::deeds_go_on;
+use group_wire::{Host, Wire};
+use paxos_acceptor::Store;
+
+/// What a node did about a refused ballot.
+#[derive(Clone, Copy, Debug, PartialEq, Eq)]
+pub enum Retried {
+    /// Nothing: no request is open, or its ballot was not refused.
+    NotDue,
+    /// It campaigned again.
+    Campaigned,
+    /// It had to campaign again, and could not.
+    CampaignRefused(NodeFault),
+}
+
+/// Returns true if the node has no ballot, since it was refused: a Refused has reported a greater
+/// one than the node has promised.
+fn is_refused<S: Store>(node: &Node<'_, S>) -> bool
+    ensures { IsTrue result ↔ IsRefused node.now.protocol.known }
+{
+    match (node.refusing_ballot(), node.record().promised) {
+        (Some(refusing), Some(promised)) => node.ballot().is_none() && promised < refusing,
+        _ => false,
+    }
+}
+
+/// Campaigns once more if the node was asked to, and its ballot was refused, above the ballot that
+/// refused it. It does so at most three times for a request, and no more once it leads or another
+/// node has a greater ballot from it. A campaign that does not begin ends that, and the node
+/// continues as it was.
+pub fn campaign_again<T: Wire, K: Keyboard, S: Store>(
+    host: &mut Host<'_, S>,
+    endpoints: &mut Endpoints<T, K>,
+) -> Result<Retried, GroupFault>
+    requires works { host.old.protocol.is_stopped ≡ false }
+    ensures works { OnOk result (host.new.protocol.is_stopped ≡ false) }
+    ensures retried { HasRetried S.kind host.old host.new
+        (around_of T.traffic K.keys endpoints.old)
+        (around_of T.traffic K.keys endpoints.new) result }
+    ensures stays { SameReleased host.old host.new }
+    ensures progress { host.new.progress ≡ host.old.progress }
+{
+    deeds_go_on::<S>();
+    if host.node().is_leading() {
+        endpoints.retries = 0;
+    }
+    if endpoints.retries == 0 || !is_refused(host.node()) {
+        return Ok(Retried::NotDue);
+    }
+    endpoints.retries -= 1;
+    match host.campaign(&mut endpoints.wire) {
+        Ok(()) => Ok(Retried::Campaigned),
+        Err(fault @ (NodeFault::Stopped | NodeFault::Store)) => Err(GroupFault::Node(fault)),
+        Err(fault) => {
+            endpoints.retries = 0;
+            Ok(Retried::CampaignRefused(fault))
+        }
+    }
+}
