@@ -138,7 +138,7 @@ class Console:
         nuls = nuls_in(self.path, kept, length)
         if is_followed and not nuls:
             return None
-        first = note.first if kept else 0
+        first = note.first if note and kept else 0
         if not is_followed and nuls_in(self.path, first, kept):
             nuls, kept = nuls_in(self.path, first, length), before
         if note and note.length != kept:
