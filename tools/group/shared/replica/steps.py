@@ -7,6 +7,7 @@ import itertools
 import struct
 import tempfile
 
+from .group import QUIET
 from .script import SHOW, form_of
 
 # A step: its kind, its node, what came of it, how many messages it sent, and the number of its
@@ -38,24 +39,30 @@ class Steps:
         # For each message whether something came of it at a node that heard it.
         self.needed = bytearray()
 
-    def add(self, step, is_kept=True):
-        """One more step, which is only counted if it is not kept."""
-        self.count += 1
-        if not is_kept:
-            return
-        (kind, node, number, outcome), happened, _ = step
-        code = DONE[kind] if outcome is None else CODES[kind, outcome]
-        if happened.is_news:
-            sends, marks = len(happened.sends), NEWS + CHANGED * happened.has_changed
-            if sends:
-                self.needed += bytes(sends)
-            if kind == "deliver":
-                self.needed[number] = 1
-        else:
+    def take(self, steps, often, are_kept=True):
+        """Takes these steps, which are only counted if they are not kept. Yields those at which
+        something was learned, or a process has ended, and each one after so many."""
+        pack, rest = ENTRY.pack, self.rest
+        for self.count, step in enumerate(steps, 1):
+            (kind, node, number, outcome), happened, call = step
             sends = marks = 0
-        self.rest += ENTRY.pack(code, node, marks, sends, number or 0)
-        if not self.count % PIECE:
-            self.flush()
+            if happened is not QUIET:
+                sends, marks = len(happened.sends), NEWS + CHANGED * happened.has_changed
+            if are_kept:
+                if marks:
+                    self.note_news(kind, number, sends)
+                code = DONE[kind] if outcome is None else CODES[kind, outcome]
+                rest += pack(code, node, marks, sends, number or 0)
+                if not self.count % PIECE:
+                    self.flush()
+            if marks and happened.learned or call is None or not self.count % often:
+                yield step
+
+    def note_news(self, kind, number, sends):
+        """Notes that something has come of a message, and that nothing has of what was sent."""
+        self.needed += bytes(sends)
+        if kind == "deliver":
+            self.needed[number] = 1
 
     def flush(self):
         self.file.write(self.rest)
