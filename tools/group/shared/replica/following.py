@@ -258,14 +258,14 @@ class Following:
     def start(self, follower, call):
         self.check_start(follower, call)
         if call.deed.is_done and self.group.nodes[follower.number] is not None:
-            raise Differs(f"{follower.where(call)}: start of a node that is up")
+            raise differs_by(follower, call, "up")
         return self.campaign(follower, call)
 
     def must_start(self, follower, call):
         """Refuses each call but a start: the node is down."""
-        kind = call.deed.kind
-        if kind != "start" and (call.deed.is_done or not self.is_unknown(follower)):
-            raise Differs(f"{follower.where(call)}: {kind} of a node that is not started")
+        is_known = call.deed.is_done or not self.is_unknown(follower)
+        if call.deed.kind != "start" and is_known:
+            raise differs_by(follower, call, "not started")
 
     def undone(self, follower, call):
         """A call that was begun and not done, or whose save has failed: it is done as a save that
@@ -354,6 +354,10 @@ class Following:
         may_lack = follower.is_last() and follower.process.status is None
         if came != sent and not (may_lack and came == sent[: len(came)]):
             raise Differs(f"{follower.where(call)}: {difference_of(sent, came, numbers)}")
+
+
+def differs_by(follower, call, state):
+    return Differs(f"{follower.where(call)}: {call.deed.kind} of a node that is {state}")
 
 
 def text_of_heard(process, call, why):
