@@ -59,13 +59,13 @@ class Follower:
 
     def move(self):
         """Goes on to the next call of the process, and returns it."""
-        self.last, call = self.call, self.after
+        call = self.after
         if type(call) is Call:
+            self.call = call
             self.after = self.seen.popleft() if self.seen else next(self.items, None)
-        else:
-            call = None
-        self.call = call
-        return call
+            return call
+        self.last, self.call = self.call, None
+        return None
 
     def is_last(self):
         """Whether the call is the last one of its process."""

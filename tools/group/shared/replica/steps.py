@@ -21,6 +21,7 @@ CODES = {
     )
 }
 DONE = {kind: CODES[kind, None] for kind in KINDS}
+DELIVERED = DONE["deliver"]
 EVENTS = {code: it for it, code in CODES.items()}
 LINES = {code: form_of(*it) + "\n" for it, code in CODES.items()}
 # Of an event with these marks the node has changed; something came of it.
@@ -53,9 +54,8 @@ class Steps:
                     self.note_news(kind, number, sends)
                 code = DONE[kind] if outcome is None else CODES[kind, outcome]
                 rest += pack(code, node, marks, sends, number or 0)
-                if not self.count % PIECE:
-                    self.flush()
             if marks and happened.learned or call is None or not self.count % often:
+                self.flush()
                 yield step
 
     def note_news(self, kind, number, sends):
@@ -70,12 +70,16 @@ class Steps:
 
     def entries(self, upto):
         """The first steps, each as an entry."""
+        return itertools.chain.from_iterable(self.pieces(upto))
+
+    def pieces(self, upto):
+        """The same, many of them at once."""
         self.flush()
         self.file.seek(0)
         while upto > 0:
             data = self.file.read(min(upto, PIECE) * ENTRY.size)
             upto -= PIECE
-            yield from ENTRY.iter_unpack(data)
+            yield ENTRY.iter_unpack(data)
         self.file.seek(self.count * ENTRY.size)
 
     def whole(self, upto):
@@ -91,12 +95,12 @@ class Steps:
         anew, seen, left = array.array("I", bytes(4 * len(self.needed))), 0, 0
         runs = collections.Counter()
         for count, (code, node, marks, sends, number) in enumerate(self.entries(upto), 1):
-            kind, outcome = EVENTS[code]
+            if code == DELIVERED and not marks:
+                continue
+            kind, _ = EVENTS[code]
             first, seen = seen, seen + sends
             if kind == "run" and runs[node] + number < MOST_RUN:
                 runs[node] += number
-                continue
-            if outcome is None and kind == "deliver" and not marks & NEWS:
                 continue
             if kind == "tick" and not marks & CHANGED and not any(self.needed[first:seen]):
                 continue
