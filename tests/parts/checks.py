@@ -142,10 +142,11 @@ def test_of(check, place):
     return unittest.FunctionTestCase(test)
 
 
-def run_checks(name, *checks, place=None):
-    """Runs these functions, or if there are none the tests of the classes of the file `name`, which
-    was started. Returns the status. SIGTERM and SIGHUP end it as Ctrl-C does, so that no process is
-    left: unittest would take SystemExit for a fault of one test, and go on."""
+def tried(checks, place=None):
+    """Runs these functions, or if there are none the tests of the classes of the file that was
+    started. Returns how many checks have passed and failed. SIGTERM and SIGHUP end it as Ctrl-C
+    does, so that no process is left: unittest would take SystemExit for a fault of one test, and go
+    on."""
     for number in (signal.SIGTERM, signal.SIGHUP):
         signal.signal(number, signal.default_int_handler)
     before = len(NOTED)
@@ -153,13 +154,20 @@ def run_checks(name, *checks, place=None):
     if not checks:
         suite = unittest.defaultTestLoader.loadTestsFromModule(sys.modules["__main__"])
     result = Result()
+    suite.run(result)
+    return len(NOTED) - before, result.failed()
+
+
+def run_checks(name, *checks, place=None):
+    """Runs these functions, or the tests of the file `name`, as `tried` does. Returns the
+    status."""
     try:
-        suite.run(result)
+        passed_ones, failed = tried(checks, place)
     except KeyboardInterrupt:
         print(f"{name}: a signal has ended it", file=sys.stderr)
         return 1
-    print(f"{name}: {len(NOTED) - before} passed, {result.failed()} failed")
-    return 1 if result.failed() else 0
+    print(f"{name}: {passed_ones} passed, {failed} failed")
+    return 1 if failed else 0
 
 
 def has_no_words(name, more=""):

@@ -13,6 +13,7 @@ from ..files import bytes_of, file_with
 from ..group import Group, await_that, output_of
 from ..program import PROGRAM
 from ..scripts import run
+from ..stories import CALM, Story
 
 # How often the ends of traces are cut off at random.
 TIMES = 16
@@ -149,4 +150,19 @@ def check_random(folder):
     expect(f"ends that are cut off at random: by status {found}", found.get(1, 0) >= TIMES // 4)
 
 
-CUT_CHECKS = (check_power, check_record, check_random)
+def check_changed_too(folder):
+    """Node 3 has lost the end of its trace, and in that of node 2 a datagram is there twice. It is
+    sent by a call that changes what `sim` shows of node 2, which is no part of what is compared."""
+    story = Story(5, 3, CALM).tell(80)
+    lines = {it: trace.text(10**12).splitlines(True) for it, trace in story.traces.items()}
+    lost = next(at for at, it in enumerate(lines[3]) if " send all 50470201" in it) + 1
+    twice = next(at for at, it in enumerate(lines[2]) if " send 3 50470202" in it)
+    lines[3], lines[2][twice] = lines[3][:lost], 2 * lines[2][twice]
+    traces = [file_with(folder, f"trace{it}", "".join(some).encode())
+              for it, some in lines.items()]
+    pattern = (f"cut: .*trace3 lacks what node 3 did after line {lost}, .*"
+               f"trace2 to line {twice - 1}, .*\n")
+    expect_said("an end that is cut off, and a change", said_of(*traces), 1, pattern)
+
+
+CUT_CHECKS = (check_power, check_record, check_random, check_changed_too)

@@ -2,6 +2,7 @@
 
 from ..replica.cuts import explain
 from ..replica.following import Cut, Differs, Following
+from ..replica.script import Event
 from .scene import Scene
 
 
@@ -14,10 +15,11 @@ def scene_of_traces(paths, bounds, note=lambda scene, line, event, happened, cal
     shown = dict.fromkeys(following.group.nodes, 0)
     try:
         for line, (event, happened, call) in enumerate(following.steps(), 2):
+            event = Event(*event)
             scene.add(line, event, happened, call and call.time)
-            if event.kind == "release" and call.number == shown[event.node]:
+            if event.kind == "release" and call.deed.number == shown[event.node]:
                 shown[event.node] += 1
-                scene.show_console(line, event.node, bytes([call.byte]))
+                scene.show_console(line, event.node, bytes([call.deed.byte]))
             note(scene, line, event, happened, call)
     except Differs as differs:
         fault = differs

@@ -85,8 +85,8 @@ class Past:
         """Takes what happened as the traces are followed."""
         if event.kind == "release":
             data = self.consoles.setdefault(event.node, bytearray())
-            if call.number == len(data):
-                data.append(call.byte)
+            if call.deed.number == len(data):
+                data.append(call.deed.byte)
                 self.grown.setdefault(event.node, []).append(scene.moments[-1][0])
             return
         is_quiet = not (happened.sends or happened.learned or happened.refused or happened.saved)

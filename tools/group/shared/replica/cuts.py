@@ -60,13 +60,14 @@ class Scan:
         for item in items_of(follower):
             if not isinstance(item, Call):
                 process = item
-            elif item.kind == "hear":
-                if not sent.has(ALL, item.data) and not sent.has(number, item.data):
+            elif item.deed.kind == "hear":
+                data = item.deed.data
+                if not sent.has(ALL, data) and not sent.has(number, data):
                     self.unsent.append(Unsent(process, item))
 
 
 def sender_of(unsent):
-    data = unsent.call.data
+    data = unsent.call.deed.data
     return data[4] if is_datagram(data) else None
 
 
@@ -122,7 +123,7 @@ def explain(following, fault):
     if fault is not None:
         return fault
     # The others may wait for one that waits for itself.
-    first = min(blocked, key=lambda it: it.call.data[4] != it.number)
+    first = min(blocked, key=lambda it: it.call.deed.data[4] != it.number)
     return Differs(text_of_heard(first.process, first.call, "was sent only after that"))
 
 

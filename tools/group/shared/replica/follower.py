@@ -41,10 +41,9 @@ class Follower:
         self.items = itertools.chain.from_iterable(it.items for it in files)
         self.seen = collections.deque()  # what was read ahead
         self.process, self.call, self.last = None, None, None
-        self.done, self.released, self.console = 0, 0, bytearray()
-        # Its turn, whether it waits for a message and since when, and the number of one that was
-        # sent long ago.
-        self.rank, self.waits, self.since, self.recalled = None, False, 0, None
+        self.released, self.console = 0, bytearray()
+        self.turn, self.since = None, 0  # its turn, and since when it waits for a message
+        self.release = ("release", number, None, None)  # what an Event of it has
         self.is_late = False
         # The messages that are kept, to all and to this node, by their content.
         self.sent_to_all, self.sent_to_it = {}, {}
@@ -59,13 +58,14 @@ class Follower:
         return f"{self.process.path}:{(call or self.process).at}"
 
     def move(self):
-        """Goes on to the next call of the process."""
-        self.last, call = self.call, self.after
+        """Goes on to the next call of the process, and returns it."""
+        call = self.after
         if type(call) is Call:
             self.call = call
             self.after = self.seen.popleft() if self.seen else next(self.items, None)
-        else:
-            self.call = None
+            return call
+        self.last, self.call = self.call, None
+        return None
 
     def is_last(self):
         """Whether the call is the last one of its process."""
@@ -75,7 +75,7 @@ class Follower:
         """Whether the process, of which all calls are done, has ended; the last one may still
         run."""
         last = self.last
-        is_ended = self.process.status is not None or last is not None and not last.is_done
+        is_ended = self.process.status is not None or last is not None and not last.deed.is_done
         return is_ended or self.after is not None
 
     def next_process(self):
@@ -97,8 +97,8 @@ class Follower:
         to start."""
         ahead, begun, item = [], 0, self.after
         while item is not None:
-            if isinstance(item, Call) and item.kind == "start":
-                if item.is_done:
+            if isinstance(item, Call) and item.deed.kind == "start":
+                if item.deed.is_done:
                     break
                 begun += 1
             item = self.take()

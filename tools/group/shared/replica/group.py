@@ -17,6 +17,10 @@ Happened = collections.namedtuple("Happened", "saved sends learned refused has_c
 NONE = range(0)
 NOTHING = Happened(None, NONE, (), None, True, True)
 QUIET = NOTHING._replace(has_changed=False, is_news=False)
+# The kinds of events that are those of the machine alone. Makes a tuple that has names, without a
+# function of its class.
+STILL = frozenset(("run", "release"))
+new = tuple.__new__
 
 MOST_DELIVERIES = 10000
 RUN_STEPS = 1000
@@ -59,74 +63,79 @@ class Group:
 
     def do(self, event):
         """Does an event that can happen."""
-        kind = event.kind
-        if kind in ("run", "release"):
+        return self.happen(*event)
+
+    def happen(self, kind, number, of=None, outcome=None, message=None):
+        """The same, by what an event has. `message` is the one that is delivered, if that is at
+        hand."""
+        if kind in STILL:
             return QUIET
-        node = self.nodes[event.node]
+        node = self.nodes[number]
         if kind == "crash":
-            self.nodes[event.node] = None
+            self.nodes[number] = None
             return NOTHING
         if kind == "start":
-            node = self.rules(event.node, self.size, self.stored[event.node])
-        before = node.mark()
-        if node.learner.news:
-            node.learner.news = []
+            node = self.rules(number, self.size, self.stored[number])
+        before, learner = node.marked or node.mark(), node.learner
+        if learner.news:
+            learner.news = []
         try:
-            if kind == "deliver":
-                change, sends = node.hear(self.sent[event.number].message)
+            if message is not None:
+                change, sends = node.hear(message)
             else:
-                change, sends = self.call(node, event)
+                change, sends = self.call(node, kind, number, of)
         except NodeRefused as refused:
             return NOTHING._replace(refused=str(refused))
         if change is None:
-            has_changed = node.mark() != before
+            after = node.marked = node.mark()
+            has_changed = after != before
             if not (has_changed or sends or kind == "start"):
                 return QUIET
-        elif not self.save(event, change):
-            return NOTHING._replace(saved=change)
+        elif self.save(number, outcome, change):
+            node.marked, has_changed = None, True
         else:
-            has_changed = True
-        self.nodes[event.node] = node
+            return NOTHING._replace(saved=change)
+        self.nodes[number] = node
         numbers = self.send(sends) if sends else NONE
-        learned = node.learner.news or ()
-        return Happened(change, numbers, learned, None, has_changed, has_changed or bool(sends))
+        is_news = has_changed or bool(sends)
+        return new(Happened, (change, numbers, learner.news or (), None, has_changed, is_news))
 
     def send(self, sends):
         """Sends these messages. Returns their numbers."""
         first, size, session = len(self.sent), self.size, self.session
-        self.sent.extend([Sent(to, it, bytes_of(it, size, session)) for to, it in sends])
+        self.sent.extend([new(Sent, (to, it, bytes_of(it, size, session))) for to, it in sends])
         return range(first, first + len(sends))
 
-    def call(self, node, event):
+    def call(self, node, kind, number, of):
         """What the node's call saves and sends."""
-        kind = event.kind
         if kind == "deliver":
-            return node.hear(self.sent[event.number].message)
+            return node.hear(self.sent[of].message)
         if kind == "tick":
             return node.tick()
         if kind == "start":
-            return self.rules.starting(self.stored[event.node]), []
+            return self.rules.starting(self.stored[number]), []
         if kind == "campaign":
             return node.campaign()
         if kind == "type":
-            node.type(event.number)
+            node.type(of)
         return None, []
 
     def change_of(self, event):
         """What the node's call would save, or None. The node is of no further use."""
+        kind, number, of, _ = event
         try:
-            return self.call(self.nodes[event.node], event)[0]
+            return self.call(self.nodes[number], kind, number, of)[0]
         except NodeRefused:
             return None
 
-    def save(self, event, change):
+    def save(self, number, outcome, change):
         """Saves a change. Whether the save succeeded; otherwise the node is down, with the old or
         the changed record."""
-        if event.outcome != "failold":
-            self.stored[event.node].change(change)
-        if event.outcome is not None:
-            self.nodes[event.node] = None
-        return event.outcome is None
+        if outcome != "failold":
+            self.stored[number].change(change)
+        if outcome is not None:
+            self.nodes[number] = None
+        return outcome is None
 
     def addressees(self, number):
         """Whom a message is for."""

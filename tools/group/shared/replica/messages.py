@@ -25,7 +25,8 @@ class Messages:
         self.last, self.first, self.count = collections.deque(), 0, 0
         self.numbers = collections.defaultdict(dict)  # of the last, by whom and content
         self.to_all = self.numbers[ALL]
-        self.recalled = {}
+        # Older ones that are there again, by their numbers; and which a node hears next.
+        self.recalled, self.awaited = {}, {}
         # By nodes the numbers of recent messages that they have heard.
         self.heard = collections.defaultdict(set)
         self.keeps_all = keeps_all
@@ -70,9 +71,13 @@ class Messages:
         """The messages that are kept, by their content: those to all, and those to this node."""
         return self.to_all, self.numbers[node]
 
-    def number_of(self, node, data):
-        """The number of the kept message that a node has heard now. Of equal ones it is the last
-        that the node has not heard, if it is a recent one, or else the last."""
+    def heard_by(self, node, data):
+        """The number of the message that a node has heard now, and the message, or None if it is
+        neither kept nor recalled for it. Of equal ones it is the last that the node has not heard,
+        if it is a recent one, or else the last."""
+        if node in self.awaited:
+            number, self.recalled[number] = found = self.awaited.pop(node)
+            return found
         numbers = self.to_all.get(data) or self.numbers[node].get(data)
         if numbers is None:
             return None
@@ -87,16 +92,17 @@ class Messages:
         heard.add(found)
         if len(heard) > 16 * RECENT:
             heard.difference_update([it for it in heard if it + RECENT < self.count])
-        return found
+        return found, self.last[found - self.first]
 
     def recall(self, node, sent):
         """Whether an older message was this one, to all or to this node. Then it is there again
-        under its number, which is returned, until others are let go."""
+        under its number, until others are let go, and is what this node hears next."""
         wanted = {ENTRY.pack(hash((to, sent.data))) for to in (ALL, node)}
         number = self.last_of(wanted)
+        self.awaited.pop(node, None)
         if number is not None:
-            self.recalled[number] = sent
-        return number
+            self.awaited[node] = number, sent
+        return number is not None
 
     def last_of(self, wanted):
         """The last number of an entry of the file that is one of these."""

@@ -32,7 +32,7 @@ class Proposer:
         return self.first + len(self.proposed)
 
     def covers(self, place):
-        return 2 * sum(it > place for it in self.coverage.values()) > self.size
+        return 2 * len([it for it in self.coverage.values() if it > place]) > self.size
 
     def leads(self):
         return self.covers(self.next())
@@ -126,6 +126,7 @@ class Protocol:
         self.remembered = None
         self.offered = Keys()
         self.waiting, self.first_waiting = [], 1
+        self.marked = None  # its mark, if that is known
 
     def leads(self):
         return self.proposer is not None and self.proposer.leads()
@@ -195,7 +196,8 @@ class Protocol:
         return Batch(self.number, self.start, self.first_waiting, characters)
 
     def hear(self, message):
-        saved = getattr(self, HEARING[message.kind])(message.sender, message.fields)
+        kind, sender, fields = message
+        saved = getattr(self, HEARING[kind])(sender, fields)
         if self.waiting:
             self.forget_read()
         return saved

@@ -50,12 +50,13 @@ class Replay:
     """What was followed so far: the group of the traces, and its steps. `looks` has what `sim`
     should show of the nodes behind some of these, by the number of steps; `chosen` the values at
     their places; `cut` says where a trace has lost lines, so that they were followed no further;
-    and `in_sim` is the number of steps that `sim` has done."""
+    `in_sim` is the number of steps that `sim` has done; and `is_ahead` says whether the group has
+    begun the step behind the last one."""
 
     def __init__(self, paths, records):
         self.paths, self.records = paths, records
         self.following, self.steps, self.looks, self.cut = None, Steps(), {}, None
-        self.chosen, self.in_sim = {}, 0
+        self.chosen, self.in_sim, self.is_ahead = {}, 0, False
 
     def head(self):
         group = self.following.group
@@ -77,7 +78,7 @@ class Replay:
         try:
             self.follow_steps()
         except Differs as differs:
-            fault = differs
+            fault, self.is_ahead = differs, True
         fault = explain(self.following, fault)
         if isinstance(fault, Cut):
             self.cut = str(fault)
@@ -86,12 +87,10 @@ class Replay:
 
     def follow_steps(self):
         prints, moments, every = Prints(), 0, 1
-        are_kept = not self.following.late
-        for step in self.following.steps():
-            self.steps.add(step, are_kept)
-            if step[1].learned:
-                self.chosen.update(step[1].learned)
-            if step[2] is not None and self.steps.count % OFTEN:
+        steps = self.following.steps()
+        for _, happened, call in self.steps.take(steps, OFTEN, not self.following.late):
+            self.chosen.update(happened.learned)
+            if call is not None and self.steps.count % OFTEN:
                 continue
             moments += 1
             if moments % every == 0:
@@ -99,6 +98,15 @@ class Replay:
             if len(self.looks) > 2 * MOST_LOOKS:
                 self.looks = dict(list(self.looks.items())[1::2])
                 every *= 2
+
+    def at_end(self):
+        """The group as it is behind the last step, and what it has released."""
+        if not self.is_ahead:
+            return self.following
+        following = Following(self.paths, self.records)
+        for _ in itertools.islice(following.steps(), self.steps.count):
+            pass
+        return following
 
     def look(self, prints):
         """What `sim` should show of the nodes now."""
@@ -200,9 +208,9 @@ def first_difference(replay, words, looks, console_of):
 def check_sim(replay, words):
     """What `sim` shows, at the end and behind the processes that ended before, is what the traces
     say."""
-    group, end = replay.following.group, replay.steps.count
-    consoles = consoles_of(replay.following, lambda it: print_of(bytes(it.console)), print_of(b""))
-    looks = {**replay.looks, end: known_of(group, consoles)}
+    following, end = replay.at_end(), replay.steps.count
+    consoles = consoles_of(following, lambda it: print_of(bytes(it.console)), print_of(b""))
+    looks = {**replay.looks, end: known_of(following.group, consoles)}
     found = first_difference(replay, words, looks, print_of)
     steps = {}
     while found and (found[1] not in steps or found[1] - found[0] > 1):
@@ -253,7 +261,7 @@ def text_of_difference(count, step, name, one, other):
     """Says of the first step behind which `sim` shows another thing where it is, and what."""
     event, _, call = step
     where = f"line {call.at} of the trace" if call else "the end of a process"
-    return (f"line {count + 1} of the script, {where} of node {event.node}: {name} is "
+    return (f"line {count + 1} of the script, {where} of node {event[1]}: {name} is "
             f"{text_of_shown(one)} by the traces, and {text_of_shown(other)} by sim")
 
 

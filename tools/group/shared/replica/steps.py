@@ -7,6 +7,7 @@ import itertools
 import struct
 import tempfile
 
+from .group import QUIET
 from .script import SHOW, form_of
 
 # A step: its kind, its node, what came of it, how many messages it sent, and the number of its
@@ -20,6 +21,7 @@ CODES = {
     )
 }
 DONE = {kind: CODES[kind, None] for kind in KINDS}
+DELIVERED = DONE["deliver"]
 EVENTS = {code: it for it, code in CODES.items()}
 LINES = {code: form_of(*it) + "\n" for it, code in CODES.items()}
 # Of an event with these marks the node has changed; something came of it.
@@ -38,24 +40,29 @@ class Steps:
         # For each message whether something came of it at a node that heard it.
         self.needed = bytearray()
 
-    def add(self, step, is_kept=True):
-        """One more step, which is only counted if it is not kept."""
-        self.count += 1
-        if not is_kept:
-            return
-        (kind, node, number, outcome), happened, _ = step
-        code = DONE[kind] if outcome is None else CODES[kind, outcome]
-        if happened.is_news:
-            sends, marks = len(happened.sends), NEWS + CHANGED * happened.has_changed
-            if sends:
-                self.needed += bytes(sends)
-            if kind == "deliver":
-                self.needed[number] = 1
-        else:
+    def take(self, steps, often, are_kept=True):
+        """Takes these steps, which are only counted if they are not kept. Yields those at which
+        something was learned, or a process has ended, and each one after so many."""
+        pack, rest = ENTRY.pack, self.rest
+        for self.count, step in enumerate(steps, 1):
+            (kind, node, number, outcome), happened, call = step
             sends = marks = 0
-        self.rest += ENTRY.pack(code, node, marks, sends, number or 0)
-        if not self.count % PIECE:
-            self.flush()
+            if happened is not QUIET:
+                sends, marks = len(happened.sends), NEWS + CHANGED * happened.has_changed
+            if are_kept:
+                if marks:
+                    self.note_news(kind, number, sends)
+                code = DONE[kind] if outcome is None else CODES[kind, outcome]
+                rest += pack(code, node, marks, sends, number or 0)
+            if marks and happened.learned or call is None or not self.count % often:
+                self.flush()
+                yield step
+
+    def note_news(self, kind, number, sends):
+        """Notes that something has come of a message, and that nothing has of what was sent."""
+        self.needed += bytes(sends)
+        if kind == "deliver":
+            self.needed[number] = 1
 
     def flush(self):
         self.file.write(self.rest)
@@ -63,12 +70,16 @@ class Steps:
 
     def entries(self, upto):
         """The first steps, each as an entry."""
+        return itertools.chain.from_iterable(self.pieces(upto))
+
+    def pieces(self, upto):
+        """The same, many of them at once."""
         self.flush()
         self.file.seek(0)
         while upto > 0:
             data = self.file.read(min(upto, PIECE) * ENTRY.size)
             upto -= PIECE
-            yield from ENTRY.iter_unpack(data)
+            yield ENTRY.iter_unpack(data)
         self.file.seek(self.count * ENTRY.size)
 
     def whole(self, upto):
@@ -84,12 +95,12 @@ class Steps:
         anew, seen, left = array.array("I", bytes(4 * len(self.needed))), 0, 0
         runs = collections.Counter()
         for count, (code, node, marks, sends, number) in enumerate(self.entries(upto), 1):
-            kind, outcome = EVENTS[code]
+            if code == DELIVERED and not marks:
+                continue
+            kind, _ = EVENTS[code]
             first, seen = seen, seen + sends
             if kind == "run" and runs[node] + number < MOST_RUN:
                 runs[node] += number
-                continue
-            if outcome is None and kind == "deliver" and not marks & NEWS:
                 continue
             if kind == "tick" and not marks & CHANGED and not any(self.needed[first:seen]):
                 continue

@@ -8,37 +8,62 @@ import re
 
 # Whom a datagram to all is for.
 ALL = "all"
+# The calls that save.
+SAVING = {b"start": "start", b"hear": "hear", b"campaign": "campaign"}
 HEAD = re.compile(rb"(?:@(\d{1,15}) )?trace ([12]) node (\d{1,20}) size (\d{1,20}) "
                   rb"session (\d{1,20})")
 HEAD_WORDS = b"trace "
 # Version 2 names a datagram again, if it is one of so many that the process has written whole.
 MOST_RECENT = 1024
 LF = 10
-SAVING = {b"start": "start", b"campaign": "campaign"}
-# What was read of HEX last: the same datagram stands in the traces of all that send and hear it. So
-# many are kept, of at most so many digits.
-KNOWN, MOST_KNOWN, MOST_DIGITS = {}, 8192, 1024
-# The numbers of one byte, as they are written.
-BYTES = {str(it).encode("ascii"): it for it in range(256)}
+# What no line begins with.
+NEVER = b"\n\n"
+# What was read last: the same datagram stands in the traces of all that send and hear it, so lines
+# come again. So many are kept, of at most so many bytes.
+MOST_KNOWN, LONGEST_KNOWN = 8192, 1024
 
 
 class Bad(Exception):
     """What is wrong with a trace, and in which line."""
 
 
+class Deed:
+    """What the line of a call says: its kind, and the bytes heard (and from where), the bytes of
+    the record or None, a character, steps, or the number and the byte of a release. `is_done` is
+    false where the call was only begun, and `has_failed` true where its save has failed."""
+
+    __slots__ = "kind", "data", "source", "number", "byte", "is_done", "has_failed"
+
+    def __init__(self, kind, data=None, source=None, number=None, byte=None, is_done=True):
+        self.kind, self.data, self.source, self.number, self.byte = kind, data, source, number, byte
+        self.is_done, self.has_failed = is_done, False
+
+
 class Call:
-    """A call of a node: its kind, and the bytes heard (and from where), the bytes of the record or
-    None, a character, steps, or the number and the byte of a release. `sends` are pairs of whom a
-    datagram is for and its bytes. `is_done` is false where the call was only begun, and
-    `has_failed` true where its save has failed. `at` is its line, and `time` the milliseconds
-    there, or None."""
+    """A call of a node: its `deed`, which lines that are the same share; `sends`, pairs of whom a
+    datagram is for and its bytes; `at`, its line, and `time`, the milliseconds there, or None.
+    There are millions, and one is made without a method of its own for the time that this takes."""
 
-    # What a call has not, or not otherwise: there are millions, and few have all of it.
-    source = number = byte = None
-    sends, is_done, has_failed = (), True, False
+    __slots__ = "deed", "at", "time", "sends"
 
-    def __init__(self, kind, at, time, data=None):
-        self.kind, self.at, self.time, self.data = kind, at, time, data
+
+class Known(dict):
+    """What was read last, by its text."""
+
+    def keep(self, text, value):
+        if len(text) <= LONGEST_KNOWN:
+            if len(self) >= MOST_KNOWN:
+                self.clear()
+            self[text] = value
+        return value
+
+
+# Bytes by their HEX; what a line says by its text, in version 1 and 2; and what was heard, by from
+# where and its bytes.
+HEX, LINES, HEARD = Known(), {1: Known(), 2: Known()}, Known()
+# The lines of calls that say the same wherever they stand.
+SAME = frozenset((b"hear", b"press", b"tick", b"run", b"release"))
+SAME_IN = {1: SAME, 2: SAME - {b"hear"}}
 
 
 class Process:
@@ -54,17 +79,12 @@ class Process:
 
 def bytes_of_hex(text):
     """The bytes of HEX. ValueError where it is none."""
-    data = KNOWN.get(text)
+    data = HEX.get(text)
     if data is not None:
         return data
     if not text or text.upper() != text:
         raise ValueError
-    data = binascii.unhexlify(text)
-    if len(text) <= MOST_DIGITS:
-        if len(KNOWN) >= MOST_KNOWN:
-            KNOWN.clear()
-        KNOWN[text] = data
-    return data
+    return HEX.keep(text, binascii.unhexlify(text))
 
 
 def number_of(text):
@@ -94,6 +114,7 @@ class Reader:
         self.path, self.at, self.time = path, 0, None
         self.process, self.call, self.begun, self.is_torn = None, None, None, False
         self.recent = None  # the last datagrams that the process has written whole, in version 2
+        self.known, self.same = {}, ()  # the lines that were read, and which kinds may be the same
         self.made = {
             b"hear": self.on_hear, b"send": self.on_send, b"begin": self.on_begin,
             b"tick": self.on_tick, b"run": self.on_run, b"release": self.on_release,
@@ -107,31 +128,38 @@ class Reader:
 
     def items(self):
         # What lines begin with while the time is the same, and the line and the time before that.
-        clock, since, before = b"", 0, None
-        made = self.made
+        clock, size, since, before = NEVER, 0, 0, None
+        made, known = self.made, {}
         with open(self.path, "rb") as file:
             for self.at, line in enumerate(file, 1):
                 try:
-                    if not clock or line[-1] != LF or not line.startswith(clock):
+                    if not line.startswith(clock):
                         since, before = self.at, self.time
                         clock = self.clock_of(line)
-                    kind, _, rest = line[len(clock) : -1].partition(b" ")
-                    call = made[kind](rest)
+                        size, clock = len(clock), clock or NEVER
+                    text = line[size:]
+                    deed = known.get(text)
+                    if deed is not None:
+                        call = Call()
+                        call.deed, call.at, call.time, call.sends = deed, self.at, self.time, ()
+                    else:
+                        call = self.read(text, made, known)
                 except (ValueError, KeyError, Bad) as fault:
-                    if HEAD_WORDS in line and line[-1] == LF and HEAD.search(line):
+                    found = HEAD_WORDS in line and line[-1] == LF and HEAD.search(line)
+                    if found:
                         self.time = before if since == self.at else self.time
-                        yield from self.end(line[: HEAD.search(line).start()])
-                        yield self.begin(line)
-                        made, clock = self.made, b""
-                    elif not self.is_torn:
-                        if isinstance(fault, Bad):
-                            raise
-                        self.refuse(line)
+                        yield from self.end(line[: found.start()])
+                        yield self.begin(line, found)
+                        made, known, clock = self.made, self.known, NEVER
+                    else:
+                        self.refuse(line, fault)
                         # Behind what was cut off no line has a meaning.
-                        made = {} if self.is_torn else made
+                        made, known = ({}, {}) if self.is_torn else (made, known)
                     continue
                 if call is not None:
-                    yield call
+                    last, self.call, self.begun = self.call, call, None
+                    if last is not None:
+                        yield last
         self.at += 1
         yield from self.end(b"")
 
@@ -144,9 +172,24 @@ class Reader:
         self.time = time_of(first)
         return b"" if self.time is None else first + b" "
 
-    def refuse(self, line):
+    def read(self, text, made, known):
+        """The call whose line this is, without its time, or None."""
+        if not text.endswith(b"\n"):
+            self.time = None
+            raise ValueError
+        kind, _, rest = text[:-1].partition(b" ")
+        call = made[kind](rest)
+        if kind in self.same:
+            known.keep(text, call.deed)
+        return call
+
+    def refuse(self, line, fault):
         """A line that is none. What was cut off is left, and all behind it up to the next
         process."""
+        if self.is_torn:
+            return
+        if isinstance(fault, Bad):
+            raise fault
         is_cut, is_zeroed = line[-1] != LF, b"\0" in line
         if not is_cut and not is_zeroed:
             self.must(False, shown(line))
@@ -164,8 +207,7 @@ class Reader:
             self.process.last = self.at - 1
             self.process.ended = self.time or self.process.begun
 
-    def begin(self, line):
-        found = HEAD.search(line)
+    def begin(self, line, found):
         if found.end() != len(line) - 1:
             self.must(False, shown(line[found.start() : -1]))
         time, version, node, size, session = (it and int(it) for it in found.groups())
@@ -173,6 +215,7 @@ class Reader:
         self.must(is_one, f"node {node} of {size}, session {session}")
         self.time = time
         self.recent = None if version == 1 else collections.deque(maxlen=MOST_RECENT)
+        self.known, self.same = LINES[version], SAME_IN[version]
         self.process = Process(self.path, self.at, time, node, size, session)
         return self.process
 
@@ -187,59 +230,57 @@ class Reader:
         self.call, self.begun, self.is_torn = None, None, False
         return left
 
-    def next_call(self, kind, data=None):
-        """Notes a call, and returns the one before it. One that was begun before it and is not this
-        one was refused, and changed nothing."""
+    def call_of(self, deed):
+        """The call whose line this is. One that was begun before it and is not this one was
+        refused, and changed nothing."""
         if self.process is None:
             self.must(False, "a line before that of a process")
-        before, self.begun = self.call, None
-        self.call = Call(kind, self.at, self.time, data)
-        return before
+        call = Call()
+        call.deed, call.at, call.time, call.sends = deed, self.at, self.time, ()
+        return call
 
     def datagram_of(self, text):
         """The datagram that a line names, in HEX or by how many back it was written whole."""
         if self.recent is None:
-            return KNOWN.get(text) or bytes_of_hex(text)
+            return bytes_of_hex(text)
         if text[:1] == b"=":
             back = number_of(text[1:])
             if not 1 <= back <= len(self.recent):
                 self.must(False, f"the process has written {len(self.recent)} datagrams, "
                           f"and not {back}")
             return self.recent[-back]
-        data = KNOWN.get(text) or bytes_of_hex(text)
+        data = bytes_of_hex(text)
         self.recent.append(data)
         return data
 
-    # The lines.
+    # The lines. Those of calls return the call.
 
     def on_begin(self, rest):
-        kind, _, data = rest.partition(b" ")
+        kind, _, text = rest.partition(b" ")
         self.must(self.process, "a line before that of a process")
-        if kind == b"hear":
-            call = Call("hear", self.at, self.time, self.datagram_of(data))
-        elif kind in SAVING and not data:
-            call = Call(SAVING[kind], self.at, self.time)
-        else:
+        data = self.datagram_of(text) if kind == b"hear" else None
+        if kind not in SAVING or text and data is None:
             raise ValueError
-        call.is_done, self.begun = False, call
+        self.begun = self.call_of(Deed(SAVING[kind], data, is_done=False))
 
     def on_start(self, rest):
         self.must(self.call is None, "a second start of a process")
-        data = None if rest == b"-" else bytes_of_hex(rest)
-        return self.next_call("start", data)
+        return self.call_of(Deed("start", None if rest == b"-" else bytes_of_hex(rest)))
 
     def on_hear(self, rest):
-        source, _, data = rest.partition(b" ")
+        source, _, text = rest.partition(b" ")
         if not source:
             raise ValueError
-        before = self.next_call("hear", self.datagram_of(data))
-        self.call.source = source
-        return before
+        data = self.datagram_of(text)
+        deed = HEARD.get((source, data))
+        if deed is None:
+            deed = Deed("hear", data, source)
+            if len(data) <= LONGEST_KNOWN:
+                HEARD.keep((source, data), deed)
+        return self.call_of(deed)
 
     def on_press(self, rest):
-        byte, before = self.byte_of(rest), self.next_call("press")
-        self.call.byte = byte
-        return before
+        return self.call_of(Deed("press", number=self.byte_of(rest)))
 
     def on_campaign(self, rest):
         return self.alone("campaign", rest)
@@ -250,24 +291,18 @@ class Reader:
     def alone(self, kind, rest):
         if rest:
             raise ValueError
-        return self.next_call(kind)
+        return self.call_of(Deed(kind))
 
     def on_run(self, rest):
-        number, before = number_of(rest), self.next_call("run")
-        self.call.number = number
-        return before
+        return self.call_of(Deed("run", number=number_of(rest)))
 
     def on_release(self, rest):
         number, _, byte = rest.partition(b" ")
         number, byte = number_of(number), self.byte_of(byte)
-        before = self.next_call("release")
-        self.call.number, self.call.byte = number, byte
-        return before
+        return self.call_of(Deed("release", number=number, byte=byte))
 
     def byte_of(self, text):
-        byte = BYTES.get(text)
-        if byte is None:
-            byte = number_of(text)
+        byte = number_of(text)
         if byte > 255:
             self.must(False, f"byte {byte}")
         return byte
@@ -285,14 +320,11 @@ class Reader:
             self.call.sends = [(to, data)]
 
     def on_failed(self, rest):
-        kind = rest.decode("ascii", "replace")
-        if kind not in ("start", "hear", "campaign"):
-            raise ValueError
-        is_begun = self.begun is not None and self.begun.kind == kind
+        call, kind = self.begun, SAVING[rest]
+        is_begun = call is not None and call.deed.kind == kind
         self.must(is_begun, f"a {kind} that was not begun has failed")
-        before, self.call, self.begun = self.call, self.begun, None
-        self.call.has_failed = True  # it was begun, so that there is a process
-        return before
+        call.deed.has_failed = True
+        return call
 
     def on_end(self, rest):
         self.must(self.process, "a line before that of a process")
