@@ -79,17 +79,17 @@ pub record IsWireTurn {S : Type 0} (came : List Arrival) (ending : Ending)
 -- The node knows of nothing that is under way: none of its own keys waits, and the last place at
 -- which it has voted, if there is one, is the one below its known front.
 -- Allows: a place that others have learned, of which it has not heard.
-abbrev pub IsSettled : Known → Type 0
-IsSettled n = (n.waiting ≡ []) × (place_after n.kept.votes ≡ front n)
+abbrev pub IsCaughtUp : Known → Type 0
+IsCaughtUp n = (n.waiting ≡ []) × (place_after n.kept.votes ≡ front n)
 
 -- Whether the tick of a turn is due at a node that knows this, once it has heard what came. After a
--- rest it is not if a place was learned since the rest began, and the node is settled: then its
+-- rest it is not if a place was learned since the rest began, and the node has caught up: then its
 -- Ask would ask for what nobody has. `rested` is the known front at the begin of the rest, if the
 -- node has rested.
 -- Allows: a tick for which memory runs out.
 abbrev pub IsTickDue : Option ℕ → Known → Type 0
 IsTickDue None n = Unit {0}
-IsTickDue (Some rested) n = ¬ ((rested < front n) × IsSettled n)
+IsTickDue (Some rested) n = ¬ ((rested < front n) × IsCaughtUp n)
 
 -- ---- what the answers say
 

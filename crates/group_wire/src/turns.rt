@@ -6,7 +6,7 @@ ghost use Rattle.group_node.specs.States.{input};
 ghost use Rattle.group_wire.specs.declared.answers.Tick.TheVariants as tick;
 ghost use Rattle.group_wire.specs.declared.limits.TheConstants.{TURN_STEPS};
 ghost use Rattle.group_wire.specs.Arrivals.{Arrival, Ending, lost_of};
-ghost use Rattle.group_wire.specs.Turns.{SameReleased, IsRefusedIfStopped, FailsAtEnd, HasHeard, HasTurned, HearsOut, HearsSome, IsHearingRefused, IsSettled, IsTickDue, TellsOfOne, is_made};
+ghost use Rattle.group_wire.specs.Turns.{SameReleased, IsRefusedIfStopped, FailsAtEnd, HasHeard, HasTurned, HearsOut, HearsSome, IsHearingRefused, IsCaughtUp, IsTickDue, TellsOfOne, is_made};
 ghost use Rattle.group_wire.specs.Doings.{ActsBy, ticked_if, ticking, transfers_of};
 ghost use Rattle.group_wire.specs.Traffic.{Receives, Traffic, grown};
 
@@ -24,10 +24,10 @@ use paxos_msg::decode;
 use paxos_msg::limits::LONGEST_DATAGRAM;
 use pcode_machine::laws::output_only_grows;
 
-/// Returns true if the node knows of nothing that is under way: none of its keys waits, and the last
-/// place at which it has voted, if there is one, is the one below its known front.
-fn is_settled<S: Store>(node: &Node<'_, S>) -> bool
-    ensures { IsTrue result ↔ IsSettled node.now.protocol.known }
+/// Returns true if the node knows of nothing that is under way: none of its keys waits, and the
+/// last place at which it has voted, if there is one, is the one below its known front.
+fn is_caught_up<S: Store>(node: &Node<'_, S>) -> bool
+    ensures { IsTrue result ↔ IsCaughtUp node.now.protocol.known }
 {
     let front = node.known_front();
     let is_last_known = match node.record().votes.as_slice().last() {
@@ -44,7 +44,7 @@ fn is_tick_due<S: Store>(node: &Node<'_, S>, rested: Option<u32>) -> bool
 {
     match rested {
         None => true,
-        Some(front) => front >= node.known_front() || !is_settled(node),
+        Some(front) => front >= node.known_front() || !is_caught_up(node),
     }
 }
 

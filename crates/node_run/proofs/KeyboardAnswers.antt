@@ -54,7 +54,13 @@ pub answered_on : {S : Type 0} (kind : StoreKind S) {old new : NodeState S} {fro
 answered_on kind Bytes (again, typed, given, acts) =
     record { gift = map Press typed; prompts = map Press typed; given = given; acts = acts; prompted = rw again (prompted_typed typed) }
 answered_on kind Campaigned (again, given, asked) =
-    record { gift = Campaign ∷ []; prompts = Campaign ∷ []; given = given; acts = asked.1; prompted = prompted refl (omega (arith, again)) refl }
+    record {
+      gift = Campaign ∷ [];
+      prompts = Campaign ∷ [];
+      given = given;
+      acts = asked.1;
+      prompted = prompted refl (omega (arith, again)) refl;
+    }
 answered_on kind Ignored (again, given, asked) =
     record { gift = Campaign ∷ []; prompts = []; given = given; acts = asked.1; prompted = prompted refl (omega (arith, again)) refl }
 answered_on kind (CampaignRefused f) (again, given, refused) =
@@ -70,10 +76,12 @@ retried_on kind {old} {from = from} again.NotDue none (not, same, is) = rw (same
   acts = none;
   prompted = prompted refl (fewer_unless_leading from.retries old.protocol.known) refl;
 })
-retried_on kind {from = from} again.Campaigned none (due, keyboard, fewer, acts) =
-    record { gift = []; prompts = Campaign ∷ []; given = rw keyboard (gift_none from.keyboard); acts = acts; prompted = prompted refl (omega (arith, fewer)) refl }
-retried_on kind {from = from} (again.CampaignRefused f) none (due, keyboard, spent, refused, works, other, acts) =
-    record { gift = []; prompts = []; given = rw keyboard (gift_none from.keyboard); acts = acts; prompted = prompted refl (omega (arith, spent)) refl }
+retried_on kind {from = from} {to} again.Campaigned none (due, keyboard, fewer, acts) =
+    let given : GivesWhatCame from.keyboard [] to.keyboard = rw keyboard (gift_none from.keyboard) in
+    record { gift = []; prompts = Campaign ∷ []; given = given; acts = acts; prompted = prompted refl (omega (arith, fewer)) refl }
+retried_on kind {from = from} {to} (again.CampaignRefused f) none (due, keyboard, spent, refused, works, other, acts) =
+    let given : GivesWhatCame from.keyboard [] to.keyboard = rw keyboard (gift_none from.keyboard) in
+    record { gift = []; prompts = []; given = given; acts = acts; prompted = prompted refl (omega (arith, spent)) refl }
 
 -- one at which a save failed
 pub retry_ended : {S : Type 0} (kind : StoreKind S) {old new : NodeState S} {from to : Around} {e : GroupFault}

@@ -105,7 +105,8 @@ pub record AnswersWhatCame {S : Type 0} (kind : StoreKind S) (answer : Answered)
 abbrev pub HasAnsweredKeyboard : {S : Type 0} → StoreKind S → NodeState S → NodeState S
     → Around → Around → Result Answered GroupFault → Type 0
 HasAnsweredKeyboard kind old new from to (Ok Bytes) =
-    (to.retries ≡ from.retries) × (typed : List ℕ) × GivesWhatCame from.keyboard (map Press typed) to.keyboard
+    (to.retries ≡ from.retries) × (typed : List ℕ)
+    × GivesWhatCame from.keyboard (map Press typed) to.keyboard
     × HasActed old new from.traffic to.traffic (map Press typed)
 HasAnsweredKeyboard kind old new from to (Ok answer) =
     (to.retries ≡ retries_after answer from.retries)

@@ -80,7 +80,7 @@ pub record AnswersKeyboard {S : Type 0} (kind : StoreKind S) (answer : Answered)
   pub unwritten : b.written ≡ a.written
 
 -- A turn: the node hears, ticks if that is due, and runs its machine. The tick is due unless a
--- place was learned since the known front was at `begun`, and the node is settled.
+-- place was learned since the known front was at `begun`, and the node has caught up.
 pub record TakesTurn {S : Type 0} (kind : StoreKind S) (begun : ℕ) (turned : Turned)
     (a b : RunMoment S) : Type 0 where
   pub did :
@@ -103,7 +103,7 @@ abbrev pub front_at : {S : Type 0} → RunMoment S → ℕ
 front_at a = front a.node.protocol.known
 
 -- A cycle up to its release: a rest, a campaign once more if one is due, the keyboard, and a turn,
--- which ticks unless a place was learned since the cycle began, and the node is settled.
+-- which ticks unless a place was learned since the cycle began, and the node has caught up.
 pub record TurnsOnce {S : Type 0} (kind : StoreKind S) (a b : RunMoment S) : Type 0 where
   pub rested : RunMoment S
   pub tried : RunMoment S

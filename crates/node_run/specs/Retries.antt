@@ -18,14 +18,14 @@ use Rattle.node_run.specs.Going.{Around, FailsAt}
 -- The node has no ballot, since it was refused: a Refused has reported a greater one than the node
 -- has promised.
 -- Forbids: a node that has promised the ballot of another one meanwhile.
-abbrev pub IsRefused : Known → Type 0
-IsRefused n = (own_ballot n.proposer ≡ None) × (refusing promised : Ballot)
+abbrev pub IsBallotRefused : Known → Type 0
+IsBallotRefused n = (own_ballot n.proposer ≡ None) × (refusing promised : Ballot)
     × (n.remembered ≡ Some refusing) × (n.kept.promised ≡ Some promised)
     × (ballot_lt promised refusing ≡ true)
 
 -- A node that may campaign so often again has to do so now.
 abbrev pub IsRetryDue : ℕ → Known → Type 0
-IsRetryDue retries n = (0 < retries) × IsRefused n
+IsRetryDue retries n = (0 < retries) × IsBallotRefused n
 
 -- How often it may campaign again: not at all once it leads.
 abbrev pub retries_unless_leading : ℕ → Known → ℕ

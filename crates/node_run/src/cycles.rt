@@ -80,8 +80,8 @@ fn note_retried<H: Clock, S: Store, E: Write>(
     log.look(host.node().protocol());
 }
 
-/// Rests, unless the node is busy; campaigns again, if that is due; types bytes at it; and takes its
-/// turn. Returns true if the node is busy then. What was released before stays as it is.
+/// Rests, unless the node is busy; campaigns again, if that is due; types bytes at it; and takes
+/// its turn. Returns true if the node is busy then. What was released before stays as it is.
 fn rest_and_turn<H: Clock, T: CountedWire, K: Keyboard, S: Store, E: Write>(
     host: &mut Host<'_, S>,
     endpoints: &mut Endpoints<T, K>,

@@ -2,7 +2,7 @@
 ghost use Rattle.std.specs.Prelude.{◌≡◌, ◌↔◌, false, IsTrue, OnOk};
 ghost use Rattle.group_wire.specs.Turns.{SameReleased};
 ghost use Rattle.node_run.specs.Going.{around_of};
-ghost use Rattle.node_run.specs.Retries.{HasRetried, IsRefused};
+ghost use Rattle.node_run.specs.Retries.{HasRetried, IsBallotRefused};
 
 use crate::endpoints::Endpoints;
 use group_node::{Node, NodeFault};
@@ -24,8 +24,8 @@ pub enum Retried {
 
 /// Returns true if the node has no ballot, since it was refused: a Refused has reported a greater
 /// one than the node has promised.
-fn is_refused<S: Store>(node: &Node<'_, S>) -> bool
-    ensures { IsTrue result ↔ IsRefused node.now.protocol.known }
+fn is_ballot_refused<S: Store>(node: &Node<'_, S>) -> bool
+    ensures { IsTrue result ↔ IsBallotRefused node.now.protocol.known }
 {
     match (node.refusing_ballot(), node.record().promised) {
         (Some(refusing), Some(promised)) => node.ballot().is_none() && promised < refusing,
@@ -53,7 +53,7 @@ pub fn campaign_again<T: Wire, K: Keyboard, S: Store>(
     if host.node().is_leading() {
         endpoints.retries = 0;
     }
-    if endpoints.retries == 0 || !is_refused(host.node()) {
+    if endpoints.retries == 0 || !is_ballot_refused(host.node()) {
         return Ok(Retried::NotDue);
     }
     endpoints.retries -= 1;
