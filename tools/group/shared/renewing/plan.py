@@ -43,8 +43,8 @@ def plan_of(path):
     try:
         return data and Plan(**json.loads(data))
     except (TypeError, ValueError):
-        raise Refused(f"{path} is damaged: it is no plan of a renewal. Put a copy of another one "
-                      "there, of a record beside it") from None
+        raise Refused(f"{path} is damaged: it is no plan of a renewal. Put a copy of another "
+                      "node's plan there: it is beside that node's record") from None
 
 
 def plan_at(record, session):
