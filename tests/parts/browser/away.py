@@ -4,10 +4,12 @@ who hear the page are told."""
 import os
 import random
 import signal
+import time
 
 from ..checks import expect, passed
 from ..files import bytes_of
 from ..page.cutting import Cutting
+from ..program import Broken
 from .looks import check_contrast, check_width
 from .room import Room, picture, said, shown
 
@@ -79,6 +81,30 @@ def check_frozen(folder, words):
         tab.type(" two")
         tab.await_that(shown("> one two"), "keys are taken again")
         expect("what was refused was not typed", bytes_of(room.group[0].console) == b"> one two")
+
+
+def check_slow(folder, words):
+    """A slow link: the page says that what is shown is old, and later that it is new again."""
+    with Room(folder) as room, Cutting(room.page.port, random.Random(1), 0.0) as slow:
+        tab, other = room.open(port=slow.port), room.open()
+        slow.rate = 400
+        count = 0
+        while not tab.run(AWAY):
+            other.type("x")
+            count += 1
+            expect_soon(count)
+        told = tab.run(BANNER)
+        passed(f"a slow link is told: {told.splitlines()[0][:60]}")
+        picture(tab, words, "slow")
+        slow.rate = None
+        tab.await_that(shown("> " + "x" * min(count, 70)), "what was typed meanwhile", 60)
+        tab.await_that(f"!({AWAY})", "it is new again", 60)
+
+
+def expect_soon(count):
+    time.sleep(0.1)
+    if count > 600:
+        raise Broken("in a minute it was not told that the link is slow")
 
 
 def check_gone(folder, words):

@@ -9,11 +9,12 @@ from shared.paging.sentences import death_of, told_of
 from ..checks import expect
 
 
+def nodes(*states):
+    return [{"node": at, "state": it} for at, it in enumerate(states, 1)]
+
+
 def check_heading(_):
     """What is said of a group, by what its nodes are."""
-    def nodes(*states):
-        return [{"node": at, "state": it} for at, it in enumerate(states, 1)]
-
     for what, states, size, leader, nobody in (
         ("3 of 3 nodes run, a majority; node 1 leads", ("leads", "up", "up"), 3, "node 1 leads",
          False),
@@ -40,7 +41,14 @@ def check_heading(_):
     ):
         found = heading_of(nodes(*states), size, leader, nobody)
         expect(what, found == what, found)
-    check_due(nodes)
+    check_flow()
+    check_due()
+    check_idle()
+    check_button()
+
+
+def check_flow():
+    """What becomes of keys, which nodes are not asked, and what is said of a session."""
     able = [{**it, "can_lead": it["state"] == "up"} for it in nodes("leads", "up", "down")]
     for of, wanted in ((able, ["it leads already", None, "it does not run"]),
                        (able[1:], [None, "it does not run"]),
@@ -71,8 +79,8 @@ def check_heading(_):
         expect(f"until when typed keys would wait: {wanted}", found == wanted, found)
 
 
-def check_due(nodes):
-    """What a person is told to do while the program stands still."""
+def check_due():
+    """What a person is told to do while no majority runs."""
     few, still = "Only 1 of 3 nodes runs, and 2 are needed.", "The program stands still."
     goes = "a node is asked to lead, and the program continues."
     by_itself = "You need do nothing, unless that takes longer than a minute."
@@ -101,6 +109,10 @@ def check_due(nodes):
         of = [{"node": at, **it} for at, it in enumerate([{"state": "up"}, *of], 1)]
         due = due_of(of, 3, True, True, waiting)
         expect(f"what is due without a majority: {what}", due == {"text": wanted, "at": None}, due)
+
+
+def check_idle():
+    """The same while nobody leads, after a minute, and once there is nothing to do."""
     for is_supervised, more in (
         (True, "A supervisor asks a node by itself within seconds. You can wait."),
         (False, "If supervisors run, one of them asks a node within seconds. You can wait for "
@@ -118,7 +130,6 @@ def check_due(nodes):
     gone = due_of(nodes("down", "down", "down"), 3, True, True, 0, False, True)["text"]
     expect("of a demo that has ended it says so", gone.startswith("All nodes have ended, and their "
            "records are not there any more"), gone)
-    check_button()
 
 
 def check_button():

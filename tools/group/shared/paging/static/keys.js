@@ -6,7 +6,7 @@ import { $ } from "./look.js";
 import { say } from "./said.js";
 import { followCursor } from "./screen.js";
 
-const MOST = 1000, PASTED = 16000, TWICE = 3000;
+const MOST = 1000, PASTED = 16000, TWICE = 3000, PATIENT = 4;
 let queue = "", client = "", number = 0, isSending = false, role = "watch", isLf = false, broke = 0;
 let isEnded = false, isToldEnd = false, flying = 0;
 
@@ -94,6 +94,7 @@ async function send(request) {
       if (status === 403) role = "watch";
       return;
     } catch {
+      if (turn === PATIENT) say("What you typed has not come yet: this page tries again.", "bad");
       await wait(turn < 4 ? 250 : 1000);
     }
   }
