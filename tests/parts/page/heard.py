@@ -137,8 +137,8 @@ def check_read(folder):
             nodes[0].close()
             visitor.await_that(lambda: visitor.group["seat"] == 1, "the session has moved")
             read_lines(visitor, nodes, range(41, 46))
-            cut_off(visitor, cutting)
-            read_lines(visitor, nodes, range(46, 49))
+            cut_off(visitor, cutting, nodes[1])
+            read_lines(visitor, nodes[1:], range(47, 49))
             visitor.end()
         wanted = [f"line {it}" for it in range(1, 49)]
         expect("each line is read once, behind a move and a cut", [
@@ -157,10 +157,11 @@ def read_lines(visitor, nodes, numbers):
     visitor.await_that(lambda: f"line {numbers[-1]}" in visitor.heard, f"the lines {numbers}")
 
 
-def cut_off(visitor, cutting):
-    """Cuts the stream once."""
+def cut_off(visitor, cutting, node):
+    """Cuts the stream once, by a line that comes."""
     before = visitor.connected
     cutting.is_cutting = True
+    node.show(b"line 46\r")
     visitor.await_that(lambda: cutting.cuts > 0, "a cut")
     cutting.is_cutting = False
     visitor.await_that(lambda: visitor.connected > before, "the stream has begun anew")

@@ -24,6 +24,8 @@ class HeardTerminal(Terminal):
     def __init__(self, *words, **more):
         # The lines that have left the screen and were not read, and how many they were.
         self.unread, self.missed = collections.deque(maxlen=KEPT), 0
+        # By how many lines the screen has scrolled.
+        self.scrolled = 0
         super().__init__(*words, **more)
 
     def reset(self):
@@ -33,6 +35,7 @@ class HeardTerminal(Terminal):
     def scroll(self, top, bottom, n):
         for _ in range(min(abs(n), bottom - top + 1)):
             if n > 0:
+                self.scrolled += 1
                 self.note_left(rest_of(self.lines[top][0].strip(), self.heard.pop(top)))
                 self.heard.insert(bottom, "")
             else:

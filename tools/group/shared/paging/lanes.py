@@ -73,6 +73,11 @@ class Lane:
         it = self.seat.record()
         return it.node if it else self.seat.number or self.at + 1
 
+    def is_dying(self):
+        """Whether its process has ended, which the next look tells."""
+        process = self.seat.process
+        return bool(self.life.is_up and process and not self.seat.is_running(process))
+
     def is_removed(self):
         """Whether its record was read here, and is no longer there."""
         votes = self.seat.votes

@@ -48,8 +48,9 @@ class Table:
         self.has_seat, self.is_lf = bool(seats), is_lf
         self.screen = Screen(screen, is_lf) if screen else None
         self.terminal, self.readings = HeardTerminal(is_lf=is_lf), Readings()
-        # Since when the console is still, until what it waits with is read.
-        self.came = None
+        # Since when the console is still, until what it waits with is read, and since when the
+        # cursor is in its line.
+        self.came, self.row = None, (0, 0.0)
         self.decoder = codecs.getincrementaldecoder("utf-8")("replace")
         self.changed, self.version, self.is_over = threading.Condition(), 0, False
         self.clients, self.keys, self.orders = Clients(), bytearray(), []
@@ -177,14 +178,19 @@ class Table:
             self.screens += 1
             self.version += 1
             self.came = time.monotonic()
+            row = self.terminal.y + self.terminal.scrolled
+            self.row = self.row if row == self.row[0] else (row, self.came)
             self.readings.add(*self.terminal.take())
         self.held = len(self.session.held)
 
     def read(self):
-        """Reads out the words with which the console waits, once it is still."""
+        """Reads out the words with which the console waits, once it is still, unless somebody types
+        there already: then they are read with the whole line."""
         if self.came is None or time.monotonic() - self.came < STILL:
             return
         self.came, before = None, self.readings.count
+        if self.typed > self.row[1]:
+            return
         self.readings.add(*self.terminal.take(is_still=True))
         self.version += self.readings.count != before
 
@@ -192,7 +198,7 @@ class Table:
         """Notes what the session has said, by what the nodes are now, and once it is told which of
         them have died before."""
         self.unsaid += said
-        if not self.unsaid or any(it.life.died for it in self.lanes):
+        if not self.unsaid or any(it.life.died or it.is_dying() for it in self.lanes):
             return
         is_still = not self.group["is_led"] or self.group["flow"] != "goes"
         said, self.unsaid = self.unsaid, []

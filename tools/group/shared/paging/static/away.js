@@ -5,8 +5,8 @@ import { hear, say, serverNow, setAhead } from "./said.js";
 
 // The server says something each second. After how long nothing is heard, or how late what is heard
 // comes, what is shown is old, in milliseconds.
-const OLD = 4000;
-let heard = Date.now(), shown = null, isOld = false, isEnded = false, reason = "";
+const OLD = 4000, ASLEEP = 1500;
+let heard = Date.now(), ticked = heard, shown = null, isOld = false, isEnded = false, reason = "";
 let command = "", refused = 0, best = null, late = 0, told = "";
 let unsent = () => 0, restore = () => {};
 
@@ -61,8 +61,12 @@ export function refuse(text) {
 }
 
 function look() {
+  const now = Date.now(), slept = now - ticked;
+  ticked = now;
+  // If this page itself did not run for a while, it hears first what has come meanwhile.
+  if (slept > ASLEEP) heard = Math.max(heard, now - OLD + ASLEEP);
   if (document.hidden) return;
-  if (!isOld && Date.now() - heard > OLD) isOld = true;
+  if (!isOld && now - heard > OLD) isOld = true;
   show();
 }
 
