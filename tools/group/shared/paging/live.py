@@ -83,6 +83,9 @@ class Live:
     # The stream.
 
     def events(self, handler, role, words):
+        if self.table.is_over:
+            handler.close_connection = True  # Whoever was told that it ends need not come again.
+            return
         if not handler.server.streams.acquire(blocking=False):
             raise Refused(503, f"{STREAMS} browsers listen already.")
         with self.table.changed:
