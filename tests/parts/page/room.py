@@ -10,7 +10,7 @@ from ..supervised import group_of
 from .visitor import Page, Visitor
 
 
-# The addresses of the groups of this process: some start at one time, and nobody has bound them yet.
+# The addresses of the groups of this process: some start at one time, and nobody has bound them.
 TAKEN, CHOOSING = set(), threading.Lock()
 
 
