@@ -106,3 +106,16 @@ def check_legend(tab, what):
     expect(f"{what}: the legend is there, and fits", tab.run(LEGEND))
     cut = tab.run(CUT)
     expect(f"{what}: no text is cut off", not cut, cut)
+
+
+LIVE = """
+  [...document.querySelectorAll("[role=status],[role=log],[role=alert],[aria-live]")].filter((it) =>
+    it.getAttribute("aria-live") !== "off").map((it) => it.id || it.parentElement.id)
+"""
+
+
+def check_live(tab, what):
+    """One part of the page is read out by itself, and the alert: what stands in two of them would
+    be heard twice."""
+    found = tab.run(LIVE)
+    expect(f"{what}: two parts are read out by themselves", found == ["away", "read"], found)

@@ -39,7 +39,9 @@ def check_keys(tab, is_idle):
     for it in range(KEYS):
         tab.type(str(it % 10))
         time.sleep(0.12)
-    tab.await_that(f"window.frames_taken.length >= {KEYS - 2}", "all keys are shown")
+    # On a busy machine several keys may come to one frame.
+    least = KEYS - 2 if is_idle else 1
+    tab.await_that(f"window.frames_taken.length >= {least}", "all keys are shown")
     taken = sorted(tab.run("window.frames_taken"))
     middle, late = taken[len(taken) // 2], taken[len(taken) * 9 // 10]
     text = f"a key is shown after {middle:.0f} ms (median), {late:.0f} ms (nine of ten)"

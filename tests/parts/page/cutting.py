@@ -1,17 +1,18 @@
-"""A proxy before a page that cuts connections, in any state of a request."""
+"""A proxy before a page that cuts connections, in any state of a request, or is slow."""
 
 import select
 import socket
 import threading
+import time
 
 
 class Cutting:
     """Passes bytes on, and cuts some connections before, within or behind what it passes: this
-    share of the times when something passes."""
+    share of the times when something passes. With a `rate` so many bytes pass in a second."""
 
     def __init__(self, port, draw, share=0.08):
         self.to, self.draw, self.share = port, draw, share
-        self.is_cutting, self.is_over, self.cuts = False, False, 0
+        self.is_cutting, self.is_over, self.cuts, self.rate = False, False, 0, None
         self.listener = socket.create_server(("127.0.0.1", 0))
         self.port = self.listener.getsockname()[1]
 
@@ -42,7 +43,8 @@ class Cutting:
     def pass_on(self, one, other):
         """Passes what is there. Whether the connection goes on."""
         for it in select.select([one, other], [], [], 1)[0]:
-            data = it.recv(65536)
+            data = it.recv(64 if self.rate else 65536)
+            time.sleep(len(data) / self.rate if self.rate else 0)
             if not data or self.is_over:
                 return False
             to = other if it is one else one

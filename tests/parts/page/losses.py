@@ -1,5 +1,7 @@
 """What a page tells of nodes that are lost, for tests/page."""
 
+import re
+
 from shared.words import ask
 
 from ..checks import expect, passed
@@ -18,24 +20,40 @@ def check_few(folder):
         for it in room.group[1:]:
             it.kill()
         few = "Only 1 of 3 nodes runs, and 2 are needed"
-        visitor.await_that(lambda: visitor.group["heading"] ==
-                           f"{few}: the program stands still", few)
+        heading = f"Nodes 2 and 3 are missing. {few}: the program stands still"
+        visitor.await_that(lambda: visitor.group["heading"] == heading, heading)
         told = visitor.group
         expect("no node is said to lead", not told["is_led"] and "leads" not in
                [it["state"] for it in told["nodes"]] and "leads" not in told["due"]["text"], told)
         expect("what a key would do is said", told["waiting"] == 0 and told["flow"] == "waits"
                and told["until"] == "until 2 nodes run", told)
         visitor.press("kept")
-        due = (f"{few}. The program stands still. What is typed is kept: 4 keys wait. Start nodes "
-               "2 and 3, unless supervisors do so.")
+        due = (f"Nodes 2 and 3 have ended, in this order. {few}. The program stands still. What is "
+               "typed is kept: 4 keys wait. Start nodes 2 and 3, unless supervisors do so.")
         visitor.await_that(lambda: visitor.group["due"]["text"] == due, due)
+        still = f"{few}: the program stands still. What is typed meanwhile is kept."
+        visitor.await_that(lambda: still in visitor.sentences, still)
         room.group[2].begin()
         visitor.await_that(lambda: visitor.text() == "> kept", "it goes on")
         visitor.await_that(lambda: not visitor.group["due"], "nothing is due")
-        said = "Nodes 2 and 3 have ended, and node 1 leads again after about "
-        visitor.await_that(lambda: any(it.startswith(said) and it.endswith(
-            "No key that was typed here is lost.") for it in visitor.sentences), said)
+        again = "2 of 3 nodes run again, which is a majority: the program continues"
+        await_said(visitor, rf"{again}( once one of them leads)?\.")
+        await_said(visitor, "Nodes 2 and 3 have ended, in this order, and node 1 leads again after "
+                   rf"{SPAN}\. {KEPT} Node 2 is missing\.")
+        room.group[1].begin()
+        await_said(visitor, r"In the last (\d+ seconds|\d minutes) nodes 2 and 3 have ended, in "
+                   rf"this order\. For {SPAN} no majority ran(, and for {SPAN} more nobody led)?: "
+                   r"the program stood still meanwhile\. The program continues\. All 3 nodes run "
+                   rf"again, and node 1 leads\. {KEPT}")
     passed("without a majority: what happens, what to do, and afterwards what has happened")
+
+
+SPAN = r"(about a second|about \d+ seconds|about \d minutes|less than a second)"
+KEPT = r"No key that was typed here is lost\."
+
+
+def await_said(visitor, pattern):
+    visitor.await_that(lambda: any(re.fullmatch(pattern, it) for it in visitor.sentences), pattern)
 
 
 def states_of(visitor):

@@ -1,46 +1,54 @@
 """What a page says of a group and of its nodes, in sentences, for tests/page."""
 
-from shared.paging.heading import (
-    due_of, flow_of, heading_of, still_of, until_of, with_reasons,
-)
+from shared.paging.due import due_of
+from shared.paging.heading import flow_of, heading_of, still_of, until_of, with_reasons
 from shared.paging.life import Life, Pair
 from shared.paging.marks import Marks
-from shared.paging.recovery import Recovery
 from shared.paging.sentences import death_of, told_of
 
 from ..checks import expect
 
 
+def nodes(*states):
+    return [{"node": at, "state": it} for at, it in enumerate(states, 1)]
+
+
 def check_heading(_):
     """What is said of a group, by what its nodes are."""
-    def nodes(*states):
-        return [{"node": at, "state": it} for at, it in enumerate(states, 1)]
-
     for what, states, size, leader, nobody in (
-        ("2 of 3 nodes run, a majority; node 1 leads", ("leads", "up", "down"), 3,
-         "node 1 leads", False),
-        ("Nobody leads, so the program stands still; 2 of 3 nodes run, a majority",
-         ("down", "up", "up"), 3, None, True),
-        ("Only 1 of 3 nodes runs, and 2 are needed: the program stands still",
-         ("down", "up", "stopped"), 3, None, True),
-        ("Only 1 of 3 nodes runs, and 2 are needed: the program stands still",
-         ("down", "leads", "down"), 3, "node 2 leads", False),
+        ("3 of 3 nodes run, a majority; node 1 leads", ("leads", "up", "up"), 3, "node 1 leads",
+         False),
+        ("2 of 3 nodes run, a majority; node 3 is missing; node 1 leads", ("leads", "up", "down"),
+         3, "node 1 leads", False),
+        ("Nobody leads, so the program stands still; 2 of 3 nodes run, a majority; node 1 is "
+         "missing", ("down", "up", "up"), 3, None, True),
+        ("Node 1 is missing and node 3 is stopped. Only 1 of 3 nodes runs, and 2 are needed: the "
+         "program stands still", ("down", "up", "stopped"), 3, None, True),
+        ("Nodes 1 and 3 are missing. Only 1 of 3 nodes runs, and 2 are needed: the program stands "
+         "still", ("down", "leads", "down"), 3, "node 2 leads", False),
         ("None of 3 nodes runs, and 2 are needed: the program stands still",
          ("down",) * 3, 3, None, True),
-        ("Only 1 of 5 nodes is known to run, and 3 are needed: the program stands still",
-         ("up", "unknown", "down", "down", "down"), 5, None, False),
+        ("Nodes 3, 4 and 5 are missing. Only 1 of 5 nodes is known to run, and 3 are needed: the "
+         "program stands still", ("up", "unknown", "down", "down", "down"), 5, None, False),
         ("1 of 3 nodes are known to run, and whether a majority runs is unknown; who leads is "
          "unknown", ("up",), 3, None, False),
         ("0 of 0 nodes run, and whether a majority runs is unknown; who leads is unknown", (), 0,
          None, False),
-        ("Only 2 of 5 nodes run, and 3 are needed: the program stands still",
-         ("up", "up", "down", "down", "down"), 5, None, True),
+        ("Nodes 3, 4 and 5 are missing. Only 2 of 5 nodes run, and 3 are needed: the program "
+         "stands still", ("up", "up", "down", "down", "down"), 5, None, True),
         ("3 of 5 nodes are known to run, a majority; who leads is unknown",
          ("up", "up", "up", "unknown", "unknown"), 5, None, False),
     ):
         found = heading_of(nodes(*states), size, leader, nobody)
         expect(what, found == what, found)
-    check_due(nodes)
+    check_flow()
+    check_due()
+    check_idle()
+    check_button()
+
+
+def check_flow():
+    """What becomes of keys, which nodes are not asked, and what is said of a session."""
     able = [{**it, "can_lead": it["state"] == "up"} for it in nodes("leads", "up", "down")]
     for of, wanted in ((able, ["it leads already", None, "it does not run"]),
                        (able[1:], [None, "it does not run"]),
@@ -71,38 +79,57 @@ def check_heading(_):
         expect(f"until when typed keys would wait: {wanted}", found == wanted, found)
 
 
-def check_due(nodes):
-    """What a person is told to do while the program stands still."""
+def check_due():
+    """What a person is told to do while no majority runs."""
     few, still = "Only 1 of 3 nodes runs, and 2 are needed.", "The program stands still."
+    goes = "a node is asked to lead, and the program continues."
     by_itself = "You need do nothing, unless that takes longer than a minute."
+    killed = {"state": "down", "supervised": True, "loss": (200, "was killed")}
     for what, of, waiting, wanted in (
-        ("two that are supervised", [{"state": "down", "supervised": True}] * 2, 10,
-         "What is typed is kept: 10 keys wait. Nodes 2 and 3 are started again by their "
-         f"supervisors. {by_itself}"),
+        ("two that are supervised", [killed, {**killed, "loss": (100, "was killed")}], 10,
+         f"Nodes 3 and 2 were killed, in this order. {few} {still} What is typed is kept: 10 keys "
+         f"wait. Nodes 2 and 3 are started again by their supervisors. Once one of them runs, "
+         f"{goes} {by_itself}"),
+        ("two that are lost in two ways", [killed, {**killed, "loss": (300, "has ended")}], 10,
+         f"Node 2 was killed and node 3 has ended. {few} {still} What is typed is kept: 10 keys "
+         f"wait. Nodes 2 and 3 are started again by their supervisors. Once one of them runs, "
+         f"{goes} {by_itself}"),
         ("one that is supervised", [{"state": "down", "supervised": True}, {"state": "down"}], 1,
-         "What is typed is kept: 1 key waits. Node 2 is started again by its supervisor. "
-         + by_itself),
+         f"Nodes 2 and 3 do not run. {few} {still} What is typed is kept: 1 key waits. Node 2 is "
+         f"started again by its supervisor. Once it runs, {goes} {by_itself}"),
         ("none that is supervised", [{"state": "down"}] * 2, 0,
-         "What is typed is kept until then. Start nodes 2 and 3, unless supervisors do so."),
-        ("one that is stopped", [{"state": "stopped", "pid": 77}, {"state": "down"}], 0,
-         "What is typed is kept until then. Start node 3, unless supervisors do so. Node 2 is "
-         "stopped: let it move again by kill -CONT 77."),
+         f"Nodes 2 and 3 do not run. {few} {still} What is typed is kept until then. Start nodes "
+         "2 and 3, unless supervisors do so."),
+        ("one that is stopped", [{"state": "stopped", "pid": 77, "loss": (50, "is stopped")},
+                                 {"state": "down"}], 0,
+         f"Node 2 is stopped. Node 3 does not run. {few} {still} What is typed is kept until then. "
+         "Start node 3, unless supervisors do so. Node 2 is stopped: let it move again by kill "
+         "-CONT 77."),
     ):
         of = [{"node": at, **it} for at, it in enumerate([{"state": "up"}, *of], 1)]
         due = due_of(of, 3, True, True, waiting)
-        expect(f"what is due without a majority: {what}",
-               due == {"text": f"{few} {still} {wanted}", "at": None}, due)
+        expect(f"what is due without a majority: {what}", due == {"text": wanted, "at": None}, due)
+
+
+def check_idle():
+    """The same while nobody leads, after a minute, and once there is nothing to do."""
     for is_supervised, more in (
         (True, "A supervisor asks a node by itself within seconds. You can wait."),
         (False, "If supervisors run, one of them asks a node within seconds. You can wait for "
                 "that."),
     ):
         due = due_of(nodes("down", "up", "up"), 3, True, is_supervised)
-        expect(f"what is due, supervised {is_supervised}", due["text"] ==
+        expect(f"what is due, supervised {is_supervised}", due["text"] == "Node 1 does not run. "
                f"Nobody leads. What is typed waits until one does. {more}", due)
     ended = [{**it, "end": "ended"} for it in nodes("up", "up", "down")]
     expect("nothing is due once the program has ended", due_of(ended, 3, True) is None)
-    check_button()
+    late = due_of(nodes("down", "up", "down"), 3, True, True, 0, is_late=True)["text"]
+    expect("after a minute it says what to do", "You need do nothing" not in late and
+           "The program stands still" not in late and "The program has stood still for a minute. "
+           "What is typed is kept until then. Start nodes 1 and 3 again" in late, late)
+    gone = due_of(nodes("down", "down", "down"), 3, True, True, 0, False, True)["text"]
+    expect("of a demo that has ended it says so", gone.startswith("All nodes have ended, and their "
+           "records are not there any more"), gone)
 
 
 def check_button():
@@ -126,7 +153,6 @@ def check_button():
         said = f"The supervisor of node {wanted} asks it to lead within seconds"
         expect(f"the sentence: {what}", (said in due["text"]) == is_named, due)
         expect("one can wait", "You can wait." in due["text"], due)
-
 
 
 
@@ -226,44 +252,3 @@ def check_pair(_):
         found = pair.look(is_down, process, Made(starts))
         expect(f"process {process[0]} and {starts} starts, down {is_down}: {wanted}",
                found == wanted, found)
-
-
-def check_recovery(_):
-    """The sentence after a loss says who was lost, who leads, and what is known of keys."""
-    nodes = [{"at": at, "node": at + 1} for at in range(3)]
-    killed = "was killed (SIGKILL), and its supervisor starts it again"
-    for what, deaths, leaders, fate, wanted in (
-        ("a leader", {0: killed}, (1, False, 2), "kept", "Node 1 was killed, and node 2 took over "
-         "after about a second. No key that was typed here is lost."),
-        ("a leader, with keys that are lost", {0: killed}, (1, False, 2), "lost", "Node 1 was "
-         "killed, and node 2 took over after about a second. Some typed keys are lost: a sentence "
-         "names them."),
-        ("one that follows", {2: killed}, (2, 2), "kept", "Node 3 was killed, and node 2 leads as "
-         "before. No key that was typed here is lost."),
-        ("a majority", {0: killed, 1: killed}, (3, False, 3), "kept", "Nodes 1 and 2 were killed, "
-         "and node 3 leads again after about a second. No key that was typed here is lost."),
-        ("two in two ways", {0: killed, 1: "has ended with status 1"}, (3, 3), "kept", "Node 1 was "
-         "killed and node 2 has ended, and node 3 leads as before. No key that was typed here is "
-         "lost."),
-        ("where it is unknown who leads", {0: killed}, (1, None), "kept", None),
-        ("where the keys are not known yet", {0: killed}, (1, 2), "unknown", None),
-        ("one, if nobody has typed", {0: killed}, (1, False, 3), "none",
-         "Node 1 was killed, and node 3 took over after about a second."),
-    ):
-        marks, recovery = Marks(), Recovery(settled=0)
-        recovery.look(marks, nodes, leaders[0], "none")
-        for at, text in deaths.items():
-            marks.add(at, "ended", text)
-        said = [recovery.look(marks, nodes, it, fate) for it in leaders[1:]]
-        expect(f"before it goes on nothing is said: {what}", not any(said[:-1]), said)
-        expect(f"what is said after the loss of {what}", said[-1] == wanted, said)
-        again = recovery.look(marks, nodes, leaders[-1], fate) if wanted else None
-        expect(f"it is said once: {what}", again is None, again)
-    # A death may be told while the lanes still show a majority.
-    marks, recovery = Marks(), Recovery()
-    recovery.look(marks, nodes, 1, "none")
-    for at in (1, 2):
-        marks.add(at, "ended", killed)
-    said = [recovery.look(marks, nodes, it, "none") for it in (1, False, 1)]
-    expect("that a leader leads as before is not said too early", said[:2] == [None, None] and
-           said[2].startswith("Nodes 2 and 3 were killed, and node 1 leads again after"), said)

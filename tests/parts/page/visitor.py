@@ -78,6 +78,8 @@ class Visitor:
         self.connection, self.number, self.client = None, 0, ""
         self.rows, self.above, self.cursor = [""] * 24, [], (0, 0)
         self.sentences, self.marks, self.group, self.said = [], [], None, 0
+        # What was read out, the number of the last line of that, and whether the page has ended.
+        self.heard, self.last, self.has_ended = [], 0, False
         self.changed, self.fault, self.is_over = threading.Condition(), None, False
         self.repeated = self.connected = 0
         self.enter(page.tokens[role])
@@ -158,7 +160,8 @@ class Visitor:
         connection = connection_to(self.port)
         try:
             headers = {**self.headers(), "Sec-Fetch-Site": "same-origin"}
-            connection.request("GET", f"/events?client={self.client}", headers=headers)
+            words = f"client={self.client}&heard={self.last if self.client else ''}"
+            connection.request("GET", f"/events?{words}", headers=headers)
             answer = connection.getresponse()
             if answer.status != 200:
                 raise OSError(f"status {answer.status}")
@@ -179,7 +182,7 @@ class Visitor:
 
     def on_hello(self, hello):
         if hello["client"] != self.client:
-            self.client, self.number = hello["client"], 0
+            self.client, self.number, self.last = hello["client"], 0, 0
         self.rows, self.above = [""] * 24, []
 
     def on_screen(self, it):
@@ -201,8 +204,15 @@ class Visitor:
             self.said = it[0]
             self.sentences.append(it[3])
 
+    def on_read(self, it):
+        self.heard += [text for number, text in it if number > self.last]
+        self.last = max([self.last, *(number for number, _ in it)])
+
     def on_beat(self, _):
         pass
+
+    def on_over(self, _):
+        self.has_ended = True
 
     # What is seen.
 

@@ -101,7 +101,7 @@ class Elsewhere:
         shot = {"node": node, "at": FIRST + node, "state": "unknown", "lag": 0, "pid": None,
                 "promised": None, "starts": None, "votes": None, "bytes": None, "shown": "",
                 "end": None, "can_type": False, "can_lead": False, "supervised": it is not None,
-                "is_new": False,
+                "is_new": False, "loss": None, "log": None,
                 "fault": f"no answer from {self.addresses[node - 1]}{view.heard_of(node)}"}
         if it is None:
             return shot

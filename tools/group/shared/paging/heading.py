@@ -1,10 +1,8 @@
-"""The sentence above a page that says how its group is, and what is to be done about it."""
+"""The sentence above a page that says how its group is."""
 
-from .sentences import nodes_named
+from .sentences import losses_named, lower, nodes_named, upper
 
 RUNS = ("up", "leads")
-SUPERVISED = "A supervisor asks a node by itself within seconds. You can wait."
-PERHAPS = "If supervisors run, one of them asks a node within seconds. You can wait for that."
 
 
 def runs(nodes):
@@ -32,18 +30,43 @@ def few_of(nodes, size):
     return f"Only {up} of {size} nodes {one if up == 1 else more}, and {needed}"
 
 
+def are(nodes, what):
+    """That these nodes are something, as a part of a sentence."""
+    return f"{lower(nodes_named(nodes))} {'is' if len(nodes) == 1 else 'are'} {what}"
+
+
+def missing_of(nodes):
+    """Which nodes do not run, in words, or an empty text."""
+    by_state = {"missing": "down", "stopped": "stopped"}
+    found = {what: [it["node"] for it in nodes if it["state"] == state]
+             for what, state in by_state.items()}
+    return " and ".join(are(them, what) for what, them in found.items() if them)
+
+
+def losses_of(nodes):
+    """How the nodes were lost that do not run, the first one first, in sentences."""
+    down = [it for it in nodes if it["state"] in ("down", "stopped")]
+    seen = sorted((it for it in down if it.get("loss")), key=lambda it: it["loss"][0])
+    rest = [it["node"] for it in down if not it.get("loss")]
+    parts = [losses_named({it["node"]: [it["loss"][1]] for it in seen})] if seen else []
+    if rest:
+        parts.append(f"{nodes_named(rest)} {'does' if len(rest) == 1 else 'do'} not run")
+    return "".join(f"{it}. " for it in parts)
+
+
 def heading_of(nodes, size, leader, is_nobody):
     """`leader` is the text of who leads, or None."""
     up, is_known = len(runs(nodes)), all(it["state"] != "unknown" for it in nodes)
     run = "run" if is_known and len(nodes) == size else "are known to run"
     ends = [it["end"] for it in nodes if it.get("end")]
     ended = f"{ends[0].replace('its', 'the')}, and reads no key any more" if ends else ""
-    majority = majority_of(nodes, size)
+    majority, missing = majority_of(nodes, size), missing_of(nodes)
     if majority is False:
-        return f"{few_of(nodes, size)}: {ended or 'the program stands still'}"
+        who = f"{upper(missing)}. " if missing and up else ""
+        return f"{who}{few_of(nodes, size)}: {ended or 'the program stands still'}"
     more = f"; {ended}" if ended else ""
     said = "a majority" if majority else "and whether a majority runs is unknown"
-    run = f"{up} of {size} nodes {run}, {said}"
+    run = f"{up} of {size} nodes {run}, {said}{f'; {missing}' if missing else ''}"
     if is_nobody:
         still = "" if ended else ", so the program stands still"
         return f"Nobody leads{still}; {run}{more}"
@@ -85,49 +108,6 @@ def until_of(nodes, size, flow):
     return f"until {size // 2 + 1} nodes run" if is_few else "until a node leads"
 
 
-def due_of(nodes, size, is_nobody, is_supervised=False, waiting=0):
-    """What a person can do: a sentence, and the node that is best asked to lead, or None. It says
-    what supervisors do as a fact where one is known to run."""
-    if not is_nobody or any(it.get("end") for it in nodes):
-        return None
-    keys = f"{waiting} key{'' if waiting == 1 else 's'} wait{'s' if waiting == 1 else ''}"
-    if majority_of(nodes, size) is False:
-        kept = f"What is typed is kept: {keys}." if waiting else "What is typed is kept until then."
-        parts = [f"{few_of(nodes, size)}.", "The program stands still.", kept]
-        return {"text": " ".join([*parts, *starts_of(nodes, size)]), "at": None}
-    waits = f"{keys}." if waiting else "What is typed waits until one does."
-    best, expected = best_of(nodes), expected_of(nodes, size)
-    asked = SUPERVISED if is_supervised else PERHAPS
-    if best and expected is best:
-        asked = (f"The supervisor of node {best['node']} asks it to lead within seconds, or "
-                 "another one does so. You can wait.")
-    text = f"Nobody leads. {waits} {asked}"
-    return {"text": text, "at": best["at"], "node": best["node"]} if best else {
-        "text": text, "at": None}
-
-
-def starts_of(nodes, size):
-    """What becomes of the nodes that do not run, in sentences."""
-    down = [it for it in nodes if it["state"] == "down"]
-    kept = [it["node"] for it in down if it.get("supervised")]
-    others = [it["node"] for it in down if not it.get("supervised")]
-    if kept:
-        whose = "their supervisors" if len(kept) > 1 else "its supervisor"
-        are = "are" if len(kept) > 1 else "is"
-        is_enough = 2 * (len(runs(nodes)) + len(kept)) > size
-        need = "You need do nothing, unless that takes longer than a minute."
-        yield f"{nodes_named(kept)} {are} started again by {whose}."
-        if is_enough:
-            yield need
-            return
-    if others:
-        yield f"Start {nodes_named(others).lower()}, unless supervisors do so."
-    for it in nodes:
-        if it["state"] == "stopped":
-            how = f"kill -CONT {it['pid']}" if it.get("pid") else "kill -CONT"
-            yield f"Node {it['node']} is stopped: let it move again by {how}."
-
-
 def still_of(text, is_still):
     """What the session says, for a page that others watch: and no more than is so while nobody
     leads, or no majority runs."""
@@ -135,32 +115,3 @@ def still_of(text, is_still):
     if not is_still:
         return text
     return text.replace("the session continues at node", "your session is at node")
-
-
-def best_of(nodes):
-    """The node that knows the greatest ballot: the one of another may be refused. Of several it is
-    the one whose console is longest, since a node that lacks something has to hear it first. Of
-    these it is the one that a supervisor asks."""
-    able, turn = [it for it in nodes if it.get("can_lead")], turn_in(nodes)
-    return max(able, default=None, key=lambda it: (
-        ballot_in(it), it["bytes"] or 0, not it.get("is_new"), -turn(it)))
-
-
-def expected_of(nodes, size):
-    """The node that is asked by its supervisor, if all of them are seen and supervised: the next
-    one behind the last that has asked to lead, unless it has just begun. Or None."""
-    if len(nodes) < size or not all(it.get("supervised") for it in nodes):
-        return None
-    able = [it for it in nodes if it["state"] == "up" and not it["is_new"]]
-    return min(able, default=None, key=turn_in(nodes))
-
-
-def turn_in(nodes):
-    """How many nodes come before a node, if supervisors ask them to lead."""
-    last = max(map(ballot_in, nodes), default=(0, 0))[1]
-    return lambda it: (it["node"] - last - 1) % max(len(nodes), 1)
-
-
-def ballot_in(node):
-    text = node.get("promised") or "-"
-    return tuple(map(int, text.split("."))) if text != "-" else (0, 0)

@@ -64,7 +64,7 @@ class Lane:
         self.at, self.seat, self.marks = at, seat, marks
         self.word, self.promised, self.led, self.was_read = None, None, set(), False
         self.size, self.grown, self.shown = None, 0.0, ""
-        self.log, self.read, self.logged = None, -READ, None
+        self.log, self.read, self.logged, self.held = None, -READ, None, 0
         self.life, self.pair, self.shown_pair = Life(at, marks), Pair(), (None, None)
         # The process that has started it, with its birth, and whether that starts it again.
         self.supervisor, self.is_supervised = None, False
@@ -72,6 +72,16 @@ class Lane:
     def number(self):
         it = self.seat.record()
         return it.node if it else self.seat.number or self.at + 1
+
+    def is_dying(self):
+        """Whether its process has ended, which the next look tells."""
+        process = self.seat.process
+        return bool(self.life.is_up and process and not self.seat.is_running(process))
+
+    def is_removed(self):
+        """Whether its record was read here, and is no longer there."""
+        votes = self.seat.votes
+        return bool(votes) and self.was_read and not os.path.exists(votes.path)
 
     def state(self, leader):
         """What the node is, in a word."""
@@ -99,7 +109,8 @@ class Lane:
     def note_word(self, word):
         before, self.word = self.word, word
         if before and word == "stopped":
-            self.marks.add(self.at, "held", "is stopped")
+            self.held = now()
+            self.marks.add(self.at, "held", "is stopped", self.held)
         elif before == "stopped" and word != "down":
             self.marks.add(self.at, "start", "moves again")
         self.marks.add(self.at, "span", word)
@@ -177,6 +188,10 @@ class Lane:
         end = self.log.end(it.node, it.session) if self.log and it else None
         return None if end is None else with_end("its program has ended", end)
 
+    def loss(self):
+        """When and how it was lost, if that was seen and it does not run."""
+        return (self.held, "is stopped") if self.word == "stopped" and self.held else self.life.loss
+
     def shot(self, session, front):
         """The node as it is, for a browser."""
         record, seat, tally = self.seat.record(), self.seat, session.tally
@@ -185,7 +200,8 @@ class Lane:
         return {
             "node": number, "at": self.at, "state": self.word, "lag": self.lag(front),
             "pid": self.shown_pair[0], "supervised": self.is_supervised,
-            "is_new": now() - self.life.rose < NEW,
+            "is_new": now() - self.life.rose < NEW, "loss": self.loss(),
+            "log": self.log.path if self.log else None,
             "promised": text_of_ballot(record.promised) if record else None,
             "starts": self.shown_pair[1] if record else None,
             "votes": tally.taken.get(number, 0) if tally and record else None,

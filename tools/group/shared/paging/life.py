@@ -2,6 +2,7 @@
 up again. It is seen by the node's process, and told as the node's log says it."""
 
 from .marks import now
+from .sentences import verb_of
 
 # How long a log is waited for to say how a node has ended, and how far what is seen and what it
 # says may be apart, in milliseconds.
@@ -17,6 +18,8 @@ class Life:
         self.is_up, self.process, self.rose = None, None, 0
         # When the last death was told, and what a log has said of one that is not seen yet.
         self.died, self.buried, self.spare = None, 0, None
+        # While it is down: when it has died, and how, if that was seen.
+        self.loss = None
 
     def look(self, is_down, process, is_said):
         """`is_said` says whether a log is expected to tell of a death."""
@@ -33,19 +36,19 @@ class Life:
             self.rise(process)
 
     def die(self, when):
-        self.is_up, self.died = False, when
+        self.is_up, self.died, self.loss = False, when, (when, "has ended")
         self.marks.add(self.at, "crash", "", when)
         spare, self.spare = self.spare, None
         if spare and spare[1] > max(self.buried, when - NEAR):
             self.tell(*spare)
 
     def tell(self, text, when):
-        self.died, self.buried = None, when
+        self.died, self.buried, self.loss = None, when, (when, verb_of(text))
         self.marks.add(self.at, "ended", text, when)
 
     def rise(self, process):
         again = " again" if self.buried else ""
-        self.is_up, self.process, self.rose = True, process, now()
+        self.is_up, self.process, self.rose, self.loss = True, process, now(), None
         self.marks.add(self.at, "start", f"is up{again}", self.rose)
 
     def note_end(self, text, when):

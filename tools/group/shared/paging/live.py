@@ -3,22 +3,21 @@ for."""
 
 import json
 import socket
-import threading
 import time
 
 from ..words import ask, text_of_address
 from ..watch import refusals_at
-from .guard import Refused
+from .guard import TYPES, Refused
 from .marks import now
-from .refusals import why_not_led
 from .server import HEADERS, STREAMS, Handler
 
 # The most bytes of keys in a request, lines above the screen with which a browser begins, and bytes
 # that wait until a browser reads them.
 KEYS, BEGIN, UNREAD = 4096, 500, 1 << 15
-# Seconds until a stream says that it is there, and until it is looked whether a node leads that was
-# asked.
-BEAT, LED = 5.0, 2.0
+# How many marks, and lines above the screen, come in one event: on a slow link each has to come
+# within the time in which a browser wants to hear something. After how many seconds a stream says
+# that it is there.
+MARKS, ABOVE, BEAT = 50, 25, 1.0
 
 
 class Live:
@@ -72,26 +71,21 @@ class Live:
         for why in refusals_at(seat.keys):
             return f"{seat.name(at)} is not asked: {why}"
         self.table.note_asked(at)
+        address = text_of_address(seat.keys)
         try:
-            is_nobody_there = ask(seat.keys, 0.05)
+            why = f"nobody receives at {address}" if ask(seat.keys, 0.05) else None
         except OSError as fault:
-            return f"{text_of_address(seat.keys)}: {fault.strerror}"
-        if is_nobody_there:
-            return f"nobody receives at {text_of_address(seat.keys)}"
-        later = threading.Timer(LED, self.tell_whether_led, [at])
-        later.daemon = True
-        later.start()
-        return None
-
-    def tell_whether_led(self, at):
-        """Says what to do if a node that was asked does not lead."""
-        why = self.table.ask(why_not_led, self.table.session, at)
+            why = f"{address}: {fault.strerror}"
         if why:
-            self.table.say("bad", why)
+            self.table.drop_ask(at)
+        return why
 
     # The stream.
 
     def events(self, handler, role, words):
+        if self.table.is_over:
+            handler.close_connection = True  # Whoever was told that it ends need not come again.
+            return
         if not handler.server.streams.acquire(blocking=False):
             raise Refused(503, f"{STREAMS} browsers listen already.")
         with self.table.changed:
@@ -105,13 +99,26 @@ class Live:
             for name, value in {**HEADERS, "Connection": "close"}.items():
                 handler.send_header(name, value)
             handler.end_headers()
-            hello = {**self.about, "role": role, "client": client, "now": now()}
+            about = dict(self.about)
+            if role != TYPES:
+                about.pop("again", None)
+            hello = {**about, "role": role, "client": client, "now": now()}
             handler.wfile.write(event("hello", hello))
-            Stream(self.table, handler.wfile.write).go_on()
+            is_known = client == words.get("client")
+            heard = heard_in(words, self.table) if is_known else None
+            Stream(self.table, handler.wfile.write, heard).go_on()
         finally:
             with self.table.changed:
                 self.table.clients.leave(client)
+                self.table.changed.notify_all()
             handler.server.streams.release()
+
+
+def heard_in(words, table):
+    """Which line a browser says that it was read last, if there is one with this number."""
+    text = words.get("heard", "")
+    is_number = text.isascii() and text.isdigit() and len(text) < 16
+    return int(text) if is_number and int(text) <= table.readings.count else None
 
 
 def sentence(text):
@@ -125,23 +132,27 @@ def event(kind, value):
 class Stream:
     """What one browser was told, and tells it what is new."""
 
-    def __init__(self, table, write):
-        self.table, self.write = table, write
+    def __init__(self, table, write, heard=None):
+        """`heard` is the number of the line that the browser was read last, or None."""
+        self.table, self.write, self.heard = table, write, heard
         self.version, self.screens, self.mark, self.said = -1, -1, 0, 0
         self.lines, self.left, self.group = None, None, None
 
     def go_on(self):
         """Tells all that is new, as long as the browser reads: OSError ends it."""
-        table, wrote = self.table, time.monotonic()
+        table, beaten = self.table, time.monotonic()
         while True:
             with table.changed:
                 table.changed.wait_for(lambda: table.version != self.version, BEAT)
                 out = self.news()
-            if not out and time.monotonic() - wrote >= BEAT:
-                out = [("beat", now())]
-            if out:
-                self.write(b"".join(event(*it) for it in out))
-                wrote = time.monotonic()
+            if time.monotonic() - beaten >= BEAT:
+                beaten = time.monotonic()
+                # The second clock is never set: by it a browser sees that its link is slow.
+                out.append(("beat", [now(), int(beaten * 1000)]))
+            for it in out:
+                self.write(event(*it))
+            if table.is_over:
+                return
 
     def news(self):
         table, out = self.table, []
@@ -150,19 +161,23 @@ class Stream:
         self.version = table.version
         if self.screens != table.screens:
             self.screens = table.screens
-            out.append(("screen", self.screen()))
+            out += [("screen", it) for it in self.screen()]
         if self.mark != table.marks.count:
-            out.append(("marks", [now(), table.marks.since(self.mark)]))
-            self.mark = table.marks.count
+            marks, self.mark = table.marks.since(self.mark), table.marks.count
+            out += [("marks", [now(), it]) for it in pieces(marks, MARKS)]
         if self.group is not table.group:
             self.group = table.group
             out.append(("group", table.group))
         out += [("say", it) for it in table.sentences if it[0] > self.said]
         self.said = table.said
-        return out
+        if self.heard != table.readings.count:
+            out.append(("read", table.readings.since(self.heard)))
+            self.heard = table.readings.count
+        return [*out, ("over", now())] if table.is_over else out
 
     def screen(self):
-        """What has changed on the screen: lines that have left it, rows, and the cursor."""
+        """What has changed on the screen: lines that have left it, rows, and the cursor. Many lines
+        come in pieces, and the rows with the last one."""
         it = self.table.terminal
         left = max(0, it.left - BEGIN) if self.left is None else self.left
         gone = min(it.left - left, len(it.history))
@@ -172,7 +187,13 @@ class Stream:
             if self.lines is None or line != self.lines[at]
         ]
         self.lines, self.left = list(it.lines), it.left
-        return [[stripped(line) for line in above], rows, it.y, it.x, it.is_hidden]
+        parts = pieces([stripped(line) for line in above], ABOVE) or [[]]
+        changed = [[]] * (len(parts) - 1) + [rows]
+        return [[*both, it.y, it.x, it.is_hidden] for both in zip(parts, changed)]
+
+
+def pieces(things, most):
+    return [things[it : it + most] for it in range(0, len(things), most)]
 
 
 def stripped(line):

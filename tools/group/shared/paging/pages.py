@@ -7,7 +7,7 @@ from ..drawing.legend import page_legend
 from .server import FOLDER
 
 MODULES = {
-    "live": ("page", "screen", "keys", "nodes", "lanes", "said", "look", "enter"),
+    "live": ("page", "screen", "keys", "nodes", "lanes", "said", "away", "look", "enter"),
     "past": ("past", "moment", "look", "enter"),
 }
 LEGEND = "<!-- legend -->"

@@ -66,3 +66,43 @@ def listed(words):
 def nodes_named(numbers):
     """These nodes at the beginning of a sentence."""
     return f"Node{'s' if len(numbers) > 1 else ''} {listed(numbers)}"
+
+
+def lower(text):
+    """A sentence without its capital letter."""
+    return text[:1].lower() + text[1:]
+
+
+def upper(text):
+    return text[:1].upper() + text[1:]
+
+
+def about(span):
+    """About how long that is, of milliseconds."""
+    seconds = round(span / 1000)
+    if seconds < 1:
+        return "less than a second"
+    if seconds < 120:
+        count = "a second" if seconds == 1 else f"{seconds} seconds"
+    else:
+        count = f"{round(seconds / 60)} minutes"
+    return f"about {count}"
+
+
+def plural(verb, count):
+    first, _, rest = verb.partition(" ")
+    many = {"was": "were", "has": "have", "is": "are"}
+    return f"{many.get(first, first) if count > 1 else first} {rest}"
+
+
+def losses_named(lost):
+    """Who was lost and how, as a sentence without its full stop. By each node `lost` has the verbs,
+    one for each time, the node that was lost first before the others."""
+    times = {1: "", 2: " twice"}
+    verbs = {it[0] for it in lost.values()}
+    if len(verbs) == 1 and all(len(it) == 1 for it in lost.values()):
+        order = ", in this order" if len(lost) > 1 else ""
+        return f"{nodes_named(lost)} {plural(*verbs, len(lost))}{order}"
+    parts = [f"node {node} {it[-1]}{times.get(len(it), f' {len(it)} times')}"
+             for node, it in lost.items()]
+    return upper(listed(parts))

@@ -11,12 +11,13 @@ from ..record import PLACES, text_of_ballot
 from ..screens import Screen
 from ..sitting.seat import Seat
 from ..sitting.session import Session
-from ..terminal import Terminal
+from .asks import Asks
 from .clients import Clients
 from .counts import Counted
-from .heading import (
-    due_of, flow_of, heading_of, majority_of, still_of, until_of, with_reasons,
-)
+from .course import Course
+from .due import due_of
+from .heading import flow_of, heading_of, majority_of, still_of, until_of, with_reasons
+from .heard import STILL, HeardTerminal, Readings
 from .lanes import Lane
 from .marks import Marks, now
 from .recovery import Recovery
@@ -46,9 +47,12 @@ class Table:
         self.session = Session(seats or [Seat(None, None, None)], at, Counted)
         self.has_seat, self.is_lf = bool(seats), is_lf
         self.screen = Screen(screen, is_lf) if screen else None
-        self.terminal = Terminal(is_lf=is_lf)
+        self.terminal, self.readings = HeardTerminal(is_lf=is_lf), Readings()
+        # Since when the console is still, until what it waits with is read, and since when the
+        # cursor is in its line.
+        self.came, self.row = None, (0, 0.0)
         self.decoder = codecs.getincrementaldecoder("utf-8")("replace")
-        self.changed, self.version = threading.Condition(), 0
+        self.changed, self.version, self.is_over = threading.Condition(), 0, False
         self.clients, self.keys, self.orders = Clients(), bytearray(), []
         self.marks = Marks()
         self.lanes = [Lane(*it, self.marks) for it in zip(range(len(seats)), seats)]
@@ -57,6 +61,9 @@ class Table:
         self.sentences, self.said = collections.deque(maxlen=SENTENCES), 0
         # What the session has said, until the deaths before it are told.
         self.unsaid, self.recovery, self.is_lossy = [], Recovery(), False
+        # What becomes of the group as a whole, what of that is not told yet, and what has come of
+        # requests to lead.
+        self.course, self.events, self.asks = Course(), [], Asks()
         # How many keys were chosen when that was new, and when it was.
         self.chosen = 0, time.monotonic()
         self.group, self.screens, self.held = None, 0, 0
@@ -99,16 +106,25 @@ class Table:
         return self.ask(self.session.go_to, at)
 
     def note_asked(self, at):
-        """Notes that somebody has asked a node to lead."""
+        """Notes that somebody asks a node to lead."""
         with self.changed:
             self.marks.add(at, "asked", "asked")
             self.note_sentence("asked", f"{self.session.name(at).capitalize()} is asked to lead.")
+            self.asks.add(at, self.session.seats[at])
             self.changed.notify_all()
 
-    def say(self, kind, text):
+    def drop_ask(self, at):
+        """Notes that it could not be asked, which its browser is told."""
         with self.changed:
-            self.note_sentence(kind, text)
+            self.asks.open.pop(at, None)
+
+    def end(self, seconds):
+        """Tells all browsers that the page ends, and waits until they know it, so long at most."""
+        with self.changed:
+            self.is_over = True
+            self.version += 1
             self.changed.notify_all()
+            self.changed.wait_for(lambda: not self.clients.listening, seconds)
 
     # What the session's own thread does.
 
@@ -135,6 +151,7 @@ class Table:
         with self.changed:
             before = self.version
             self.note(data)
+            self.read()
             if is_due:
                 self.look()
             self.note_said(said)
@@ -160,13 +177,28 @@ class Table:
             self.terminal.write(self.decoder.decode(data))
             self.screens += 1
             self.version += 1
+            self.came = time.monotonic()
+            row = self.terminal.y + self.terminal.scrolled
+            self.row = self.row if row == self.row[0] else (row, self.came)
+            self.readings.add(*self.terminal.take())
         self.held = len(self.session.held)
+
+    def read(self):
+        """Reads out the words with which the console waits, once it is still, unless somebody types
+        there already: then they are read with the whole line."""
+        if self.came is None or time.monotonic() - self.came < STILL:
+            return
+        self.came, before = None, self.readings.count
+        if self.typed > self.row[1]:
+            return
+        self.readings.add(*self.terminal.take(is_still=True))
+        self.version += self.readings.count != before
 
     def note_said(self, said):
         """Notes what the session has said, by what the nodes are now, and once it is told which of
         them have died before."""
         self.unsaid += said
-        if not self.unsaid or any(it.life.died for it in self.lanes):
+        if not self.unsaid or any(it.life.died or it.is_dying() for it in self.lanes):
             return
         is_still = not self.group["is_led"] or self.group["flow"] != "goes"
         said, self.unsaid = self.unsaid, []
@@ -179,9 +211,9 @@ class Table:
         return any(it["state"] == "leads" and text.startswith(f"Node {it['node']} ")
                    for it in self.group["nodes"])
 
-    def note_sentence(self, kind, text):
+    def note_sentence(self, kind, text, when=None):
         self.said += 1
-        self.sentences.append((self.said, now(), kind, text))
+        self.sentences.append((self.said, when or now(), kind, text))
         self.version += 1
 
     def look(self):
@@ -195,17 +227,24 @@ class Table:
         if group != self.group or self.marks.count != count:
             self.group = group
             self.version += 1
-        self.tell_recovery(leader)
+        for it in self.asks.look(session, leader):
+            self.note_sentence(*it)
+        self.tell_course(leader and leader.node)
 
-    def tell_recovery(self, leader):
-        """Says in one sentence what has happened, once all goes on after a loss."""
-        self.recovery.note_leader(leader and leader.node)
+    def tell_course(self, leader):
+        """Says what has become of the group, once the deaths before that are told; and what has
+        happened in all, once the program goes on after a loss."""
+        nodes, size = self.group["nodes"], self.group["size"]
+        self.recovery.note(nodes, size, leader)
         if any(it.life.died for it in self.lanes):
             return
+        events, self.events = self.events, []
+        for when, kind, text in events:
+            self.note_sentence(kind, text, when)
         if not self.recovery.lost:
             self.is_lossy = False
-        said = self.recovery.look(self.marks, self.group["nodes"], leader and leader.node,
-                                  self.fate_of_keys())
+        said = self.recovery.look(self.marks, nodes, size, leader, self.fate_of_keys(),
+                                  self.group["flow"] == "ended")
         if said:
             self.note_sentence("over", said)
 
@@ -252,6 +291,11 @@ class Table:
         """Whether a supervisor of the group is known to run."""
         return bool(self.view and self.view.states) or any(it.is_supervised for it in self.lanes)
 
+    def are_gone(self, nodes):
+        """Whether no node runs, and there is no record any more."""
+        return bool(nodes) and all(it["state"] == "down" for it in nodes) and all(
+            it.is_removed() for it in self.lanes)
+
     def group_now(self, leader):
         """The group for a browser."""
         session = self.session
@@ -260,11 +304,13 @@ class Table:
         nodes.sort(key=lambda it: it["node"])
         size, waiting = self.size(len(nodes)), session.waiting()
         nodes, is_nobody = with_reasons(nodes, size), leader is False
-        due = due_of(nodes, size, is_nobody, self.is_supervised(), waiting)
         flow = flow_of(nodes, size, is_nobody)
+        self.events += self.course.look(nodes, size, leader, flow == "ended")
+        due = due_of(nodes, size, is_nobody, self.is_supervised(), waiting, self.course.is_late(),
+                     self.are_gone(nodes))
         leads = f"node {leader.node} leads, ballot {text_of_ballot(leader)}" if leader else None
         return {
-            "nodes": nodes, "heading": heading_of(nodes, size, leads, is_nobody),
+            "nodes": nodes, "size": size, "heading": heading_of(nodes, size, leads, is_nobody),
             "is_led": bool(leader), "due": due, "until": until_of(nodes, size, flow),
             "flow": "waits" if flow == "goes" and self.is_stuck(waiting) else flow,
             "session": self.view.session if self.view else session.number,

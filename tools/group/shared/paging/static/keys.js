@@ -1,13 +1,14 @@
 // Keys: one request at a time, with all that was typed meanwhile, so that their order stays. A
 // request that may have been lost is repeated with its number, and types nothing twice.
+import { isAway, refuse } from "./away.js";
 import { ask } from "./enter.js";
 import { $ } from "./look.js";
 import { say } from "./said.js";
 import { followCursor } from "./screen.js";
 
-const MOST = 1000, PASTED = 16000, TWICE = 3000;
+const MOST = 1000, PASTED = 16000, TWICE = 3000, PATIENT = 4;
 let queue = "", client = "", number = 0, isSending = false, role = "watch", isLf = false, broke = 0;
-let isEnded = false, isToldEnd = false;
+let isEnded = false, isToldEnd = false, flying = 0;
 
 const KEYS = {
   escape: "\x1b", tab: "\t", back: "\x7f", up: "\x1b[A", down: "\x1b[B", right: "\x1b[C",
@@ -29,6 +30,14 @@ export function knownAs(hello) {
   [client, number] = [hello.client, 0];
 }
 export const myName = () => client;
+// How many keys are typed and not known to have come.
+export const unsent = () => queue.length + flying;
+
+// The server says that it ends.
+export function serverEnds() {
+  if (isSending) giveUp("The page's server has ended.");
+  client = "";
+}
 
 function giveUp(why) {
   queue = "";
@@ -39,6 +48,7 @@ export function type(text) {
   if (role !== "type") {
     return say("You watch: keys are for those who have the other address.", "bad");
   }
+  if (isAway()) return refuse(text);
   if (isEnded) return tellEnd();
   queue += text;
   followCursor();
@@ -67,8 +77,12 @@ function nextKeys() {
 
 async function sendAll() {
   isSending = true;
-  while (queue) await send({ client, number: ++number, keys: nextKeys() });
-  isSending = false;
+  while (queue) {
+    const keys = nextKeys();
+    flying = keys.length;
+    await send({ client, number: ++number, keys });
+  }
+  [isSending, flying] = [false, 0];
 }
 
 async function send(request) {
@@ -80,7 +94,7 @@ async function send(request) {
       if (status === 403) role = "watch";
       return;
     } catch {
-      if (turn === 0) say("The page's server does not answer: what you type waits here.", "bad");
+      if (turn === PATIENT) say("What you typed has not come yet: this page tries again.", "bad");
       await wait(turn < 4 ? 250 : 1000);
     }
   }

@@ -95,7 +95,9 @@ export class Lane {
     }
     if (kind === "start") return draw("path", { d: `M${x} ${y - 6}l8 6l-8 6z`, class: "start" });
     if (kind !== "crash") return null;
-    const sign = draw("g", {}), word = draw("text", { x, y: y + 17, class: "times",
+    // On a low lane the console stands where the count would be.
+    const low = y + 17 < this.base ? y + 17 : y - 8;
+    const sign = draw("g", {}), word = draw("text", { x, y: low, class: "times",
       "text-anchor": x > this.right - 12 ? "end" : "middle" }, "");
     sign.append(draw("path", { d: `M${x - 6} ${y - 6}l12 12m0-12l-12 12`, class: "crash" }), word);
     this.cross = { x, word, count: 1 };

@@ -1,6 +1,7 @@
 // The nodes: a card and a lane for each, and what a person can do about the group.
 import { $, draw, make, many } from "./look.js";
-import { dropEnds, dropOver, say, serverNow } from "./said.js";
+import { isAway, shownNow } from "./away.js";
+import { dropEnds, dropOver, hear, say } from "./said.js";
 import { ask } from "./enter.js";
 import { focusKeys, setEnded } from "./keys.js";
 import { Lane } from "./lanes.js";
@@ -11,14 +12,15 @@ const STATES = { up: "runs", leads: "leads", down: "does not run", stopped: "is 
   unknown: "is unknown" };
 const ENDED = "the program has ended";
 // The cards by the numbers of the lanes, and the group as it was told last.
-let cards = new Map(), group = null, role = "watch";
+let cards = new Map(), group = null, role = "watch", heardDue = null;
 
 async function act(path, at) {
+  if (isAway()) return say("Not connected: nothing was done.", "bad");
   try {
     const why = (await ask(path, { at }))[1];
     if (why) say(why, "bad");
   } catch {
-    say("The page's server does not answer: look whether it was done, and try again.", "bad");
+    say("The page's server has not answered: look whether it was done, and try again.", "bad");
   }
 }
 
@@ -115,6 +117,8 @@ export function showGroup(told) {
   drawLanes();
 }
 
+export const showAgain = () => group && showGroup(group);
+
 // How many keys wait, or what would become of one.
 function waits() {
   const { waiting, why, until, flow } = group;
@@ -146,6 +150,7 @@ function showUsed() {
 
 function showDue() {
   const due = group.due, box = $("due"), [text, button] = box.children, had = box.hidden;
+  hearDue();
   if (!due) {
     const isMine = box.contains(document.activeElement);
     box.hidden = true;
@@ -161,6 +166,18 @@ function showDue() {
   if (had) followCursor();
 }
 
+// Of the banner each sentence is heard once, until there is none; of those about keys that wait the
+// first one. At first the heading is heard too.
+function hearDue() {
+  if (heardDue === null) hear(group.heading);
+  heardDue ??= new Set();
+  if (!group.due) return heardDue.clear();
+  const plain = (it) => (/^What is typed|keys? waits?\.$/.test(it) ? "keys" : it);
+  const news = group.due.text.split(/(?<=\.) /).filter((it) => !heardDue.has(plain(it)));
+  news.forEach((it) => heardDue.add(plain(it)));
+  if (news.length) hear(news.join(" "));
+}
+
 // F6: to the first thing that can be done about the nodes.
 export function leave() {
   const due = $("due").lastElementChild, first = document.querySelector("#nodes button:enabled");
@@ -174,7 +191,7 @@ function drawLanes() {
   isDue = true;
   requestAnimationFrame(() => {
     isDue = false;
-    for (const it of cards.values()) it.lane.draw(serverNow());
+    for (const it of cards.values()) it.lane.draw(shownNow());
   });
 }
 

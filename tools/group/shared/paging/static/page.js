@@ -1,14 +1,26 @@
 // The page of a group that runs: it shows its token, takes the stream of events, and hands each
 // event on.
 import { $, beginTheme } from "./look.js";
-import { beginSaid, clearSaid, dropAsked, list, say, setAhead } from "./said.js";
+import { beginAway, noteHeard, noteTime, setCommand, stop } from "./away.js";
+import { FRESH, beginSaid, clearSaid, dropAsked, hear, list, serverNow, setAhead, show }
+  from "./said.js";
 import { beginScreen, clearScreen, showScreen } from "./screen.js";
 import { enter } from "./enter.js";
-import { beginKeys, focusKeys, knownAs, myName } from "./keys.js";
-import { beginNodes, clearLanes, leave, note, showGroup } from "./nodes.js";
+import { beginKeys, focusKeys, knownAs, myName, serverEnds, unsent } from "./keys.js";
+import { beginNodes, clearLanes, leave, note, showAgain, showGroup } from "./nodes.js";
 
-const SILENT = 15000;
-let stream = null, broken = 0, later = 0, heard = Date.now();
+const SILENT = 15000, LONGEST = 5000;
+let stream = null, broken = 0, later = 0, tried = Date.now(), name = "";
+// The numbers of the last line, mark and sentence of which this browser was told: after a break the
+// server tells all of them again.
+let last = { read: 0, mark: 0, said: 0 }, isBack = false;
+
+// Whether those who hear the page do not know this yet.
+function isNews(kind, number, when = serverNow()) {
+  if (number <= last[kind]) return false;
+  last[kind] = number;
+  return isBack || serverNow() - when < FRESH;
+}
 
 const TOLD = {
   start: (it) => it, crash: (it) => it, held: (it) => it, log: (it) => it,
@@ -22,62 +34,91 @@ function greet(hello) {
   clearScreen();
   clearSaid();
   clearLanes(hello.role);
+  isBack = name !== "" && hello.client === name;
+  if (!isBack) last = { read: 0, mark: 0, said: 0 };
   knownAs(hello);
+  setCommand(hello.again);
   $("name").textContent = document.title = hello.name;
   $("role").textContent = hello.role === "type" ? "you type" : "you watch";
   $("role").className = `role ${hello.role}`;
-  document.body.className = hello.role;
+  document.body.classList.remove("type", "watch");
+  document.body.classList.add(hello.role);
   $("keyboard").disabled = hello.role !== "type";
   $("dot").className = "dot on";
-  if (broken) say("The page's server answers again.", "note");
-  else focusKeys();
-  broken = 0;
+  if (!name) focusKeys();
+  [name, broken] = [hello.client, 0];
 }
 
 function noteMarks([time, marks]) {
   setAhead(time);
-  for (const [, when, at, kind, text] of marks) {
-    const name = note(at, when, kind, text);
+  for (const [number, when, at, kind, text] of marks) {
+    const name = note(at, when, kind, text), isNew = isNews("mark", number, when);
     if (kind === "leads") dropAsked(when);
-    if (TOLD[kind] && text) list(`${name} ${TOLD[kind](text)}`, kind, when);
+    if (!TOLD[kind] || !text) continue;
+    list(`${name} ${TOLD[kind](text)}`, kind, when);
+    if (isNew) hear(`${name} ${TOLD[kind](text)}`);
   }
+}
+
+// What the banner says too is heard there.
+function noteSaid([number, when, kind, text]) {
+  show(text, kind, when);
+  if (isNews("said", number, when) && !["still", "late"].includes(kind)) hear(text);
+}
+
+function noteRead(lines) {
+  for (const [number, text] of lines) if (isNews("read", number)) hear(text);
+}
+
+function ends() {
+  serverEnds();
+  stop();
 }
 
 function connect() {
   // There is one stream at a time: what comes by two would be shown twice.
   stream?.close();
   clearTimeout(later);
-  heard = Date.now();
-  stream = new EventSource(`/events?client=${encodeURIComponent(myName())}`);
+  tried = Date.now();
+  const heard = name ? last.read : "";
+  stream = new EventSource(`/events?client=${encodeURIComponent(myName())}&heard=${heard}`);
   const on = (kind, does) => stream.addEventListener(kind, (it) => {
-    heard = Date.now();
+    tried = Date.now();
     does(JSON.parse(it.data));
+    noteHeard();
   });
   on("hello", greet);
   on("screen", showScreen);
   on("marks", noteMarks);
   on("group", showGroup);
-  on("say", ([, when, kind, text]) => say(text, kind, when));
-  on("beat", setAhead);
+  on("say", noteSaid);
+  on("read", noteRead);
+  on("beat", noteTime);
+  stream.addEventListener("over", ends);
   stream.onerror = lost;
 }
 
 function lost() {
-  stream.close();
-  $("dot").className = "dot off";
-  if (!broken++) say("The page's server does not answer; this page tries again.", "bad");
+  stream?.close();
   clearTimeout(later);
-  later = setTimeout(again, 1000);
+  later = setTimeout(again, broken++ < 4 ? 250 : 1000);
 }
 
 // Connects again, but not to a server that does not know this browser.
 async function again() {
   if (document.hidden) return;
+  tried = Date.now();
   try {
-    const answer = await fetch("/known");
-    if (answer.status === 403) return say(await answer.text(), "bad");
+    const answer = await fetch("/known", { signal: AbortSignal.timeout(LONGEST) });
+    if (answer.status === 403) return refused(await answer.text());
   } catch { /* It is still away. */ }
   connect();
+}
+
+function refused(why) {
+  stream?.close();
+  stream = null;
+  stop(why);
 }
 
 async function begin() {
@@ -86,8 +127,17 @@ async function begin() {
   beginSaid();
   beginKeys();
   beginNodes();
-  const had = location.hash !== "", why = await enter();
-  if (why) return say(why, "bad");
+  beginAway(unsent, showAgain);
+  const had = location.hash !== "";
+  for (;;) {
+    try {
+      const why = await enter();
+      if (why) return refused(why);
+      break;
+    } catch {
+      await new Promise((done) => setTimeout(done, 1000));
+    }
+  }
   if (had) connect();
   else await again();
 }
@@ -104,7 +154,7 @@ document.addEventListener("visibilitychange", () => {
   if (!document.hidden) again();
 });
 setInterval(() => {
-  if (Date.now() - heard > SILENT && !document.hidden && stream) heard = Date.now(), lost();
-}, 5000);
+  if (stream && !document.hidden && Date.now() - tried > SILENT) lost();
+}, 1000);
 
 begin();

@@ -1,15 +1,33 @@
 // The sentences that say what has happened: the last one below the console, and all in a list.
+// Nothing on the page is read out by itself but what `hear` is given, and a page that is old.
 import { $, clock, make } from "./look.js";
 
-const KEPT = 100, FRESH = 15000;
+const KEPT = 100, READ = 24;
+export const FRESH = 15000;
+// What the banner says too is in the list alone.
+const LISTED = ["still", "again", "late"];
 let noteEnds = 0, led = 0, ahead = 0, isFollowing = true, shape = "";
 
 // By how much the server's clock is ahead of this one's.
 export const setAhead = (serverTime) => (ahead = serverTime - Date.now());
 export const serverNow = () => Date.now() + ahead;
 
-export function say(text, kind = "", when = serverNow()) {
+// Tells those who hear the page.
+export function hear(text) {
+  const box = $("read");
+  box.append(make("p", "", text));
+  while (box.children.length > READ) box.firstChild.remove();
+}
+
+// Says what only this browser has to say.
+export function say(text, kind = "") {
+  show(text, kind, serverNow());
+  hear(text);
+}
+
+export function show(text, kind, when) {
   list(text, kind, when);
+  if (LISTED.includes(kind)) return;
   if (serverNow() - when > FRESH || kind === "asked" && when <= led) return;
   $("note").textContent = text;
   $("note").className = kind;

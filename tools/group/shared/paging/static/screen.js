@@ -9,7 +9,6 @@ export function clearScreen() {
   cursor = [0, 0];
   rows = Array.from({ length: ROWS }, () => Object.assign(make("div"), { text: "", looks: "" }));
   $("screen").replaceChildren(...rows);
-  $("read").replaceChildren();
 }
 
 // A row in pieces that look alike; the cursor is one for itself.
@@ -46,19 +45,8 @@ export function showScreen([above, changed, y, x, isHidden]) {
   for (const at of new Set([...changed.map((it) => it[0]), cursor[0], y])) {
     paint(rows[at], at === y && !isHidden ? x : -1);
   }
-  // Those who hear the page are read what is new, once a line is done.
-  if (y !== cursor[0] || above.length) {
-    readOut([...old, ...changed.filter((it) => it[0] !== y).map((it) => rows[it[0]])]);
-  }
   cursor = [y, x];
   if (isFollowing) followCursor();
-}
-
-function readOut(lines) {
-  const said = lines.map((it) => it.text.trim()).filter(Boolean).slice(-8);
-  const box = $("read");
-  box.append(...said.map((it) => make("p", "", it)));
-  while (box.children.length > 24) box.firstChild.remove();
 }
 
 // Keeps the cursor seen: the screen's first line stays at the top as long as there is room.

@@ -1,0 +1,137 @@
+"""A page in a browser whose server does not answer, or has ended, for tests/browser; and what those
+who hear the page are told."""
+
+import os
+import random
+import signal
+import time
+
+from ..checks import expect, passed
+from ..files import bytes_of
+from ..page.cutting import Cutting
+from ..program import Broken
+from .looks import check_contrast, check_width
+from .room import Room, picture, said, shown
+
+AWAY = "!document.getElementById('away').hidden"
+BANNER = "document.getElementById('away').innerText"
+HEARD = "window.heard"
+LISTEN = """window.heard = []; new MutationObserver((all) => all.forEach((it) =>
+  it.addedNodes.forEach((one) => window.heard.push(one.textContent)))).observe(
+  document.getElementById("read"), { childList: true });"""
+
+
+def check_heard(folder, words):
+    """Each line is heard once: also while the screen scrolls, behind a cut, and when the session
+    moves. So is each sentence."""
+    with Room(folder, "--lf") as room, Cutting(room.page.port, random.Random(1), 1.0) as cutting:
+        tab = room.open(port=cutting.port)
+        tab.run(LISTEN)
+        for it in range(1, 31):
+            tab.type(f"line {it}\r")
+            tab.await_that(f"{HEARD}.some((it) => /\\bline {it}$/.test(it))", f"line {it} is heard")
+        before = cutting.cuts
+        cutting.is_cutting = True
+        while cutting.cuts == before:
+            tab.run("1")
+        cutting.is_cutting = False
+        room.group[0].kill()
+        tab.await_that(f"{HEARD}.some((it) => it.includes('Nobody leads.'))", "the banner is heard")
+        tab.run("""fetch("/lead", { method: "POST", body: JSON.stringify({ at: 1 }),
+          headers: { "Content-Type": "application/json" } }).then((it) => it.status)""")
+        tab.await_that(f"{HEARD}.some((it) => it === 'Node 2 leads now.')", "node 2 leads")
+        for it in range(31, 34):
+            tab.type(f"line {it}\r")
+            tab.await_that(f"{HEARD}.some((it) => /\\bline {it}$/.test(it))", f"line {it} is heard")
+        heard = tab.run(HEARD)
+        lines = [it for it in heard if "line" in it.split()]
+        expect("each line is heard once", [it.removeprefix("> ") for it in lines] == [
+            f"line {it}" for it in range(1, 34)], lines)
+        others = [it for it in heard if it not in lines and it != ">"]
+        twice = {it for it in others if others.count(it) > 1}
+        expect("each sentence is heard once", not twice and others, twice, others)
+
+
+def check_frozen(folder, words):
+    """A link over which nothing comes any more: the page says so within seconds, and refuses keys.
+    It comes back by itself."""
+    with Room(folder) as room:
+        tab = room.open()
+        tab.type("one")
+        tab.await_that(shown("> one"), "what was typed")
+        os.kill(room.page.process.pid, signal.SIGSTOP)
+        tab.await_that(AWAY, "the page says that it is old", 10)
+        told = tab.run(BANNER)
+        expect("it says since when, and what to do", told.startswith("Not connected since ")
+               and "What is shown here is from then." in told and "connects again by itself" in told
+               and "page" in told, told)
+        tab.type("xyz")
+        tab.await_that(f"{BANNER}.includes('3 keys typed since then: refused.')",
+                       "keys are refused, and that is seen")
+        expect("the heading is not that of a group that runs", tab.run(
+            "document.getElementById('heading').textContent").startswith("Not connected since "))
+        check_contrast(tab, "a page that is old")
+        picture(tab, words, "away")
+        os.kill(room.page.process.pid, signal.SIGCONT)
+        tab.await_that(f"!({AWAY})", "it is there again")
+        tab.await_that(said("3 keys that you typed meanwhile were refused: type them again."),
+                       "that keys were refused is said")
+        tab.await_that("/a majority; node 1 leads/.test(document.getElementById('heading')"
+                       ".textContent)", "the heading is that of the group")
+        tab.type(" two")
+        tab.await_that(shown("> one two"), "keys are taken again")
+        expect("what was refused was not typed", bytes_of(room.group[0].console) == b"> one two")
+
+
+def check_slow(folder, words):
+    """A slow link: the page says that what is shown is old, and later that it is new again."""
+    with Room(folder) as room, Cutting(room.page.port, random.Random(1), 0.0) as slow:
+        tab, other = room.open(port=slow.port), room.open()
+        slow.rate = 400
+        count = 0
+        while not tab.run(AWAY):
+            other.type("x")
+            count += 1
+            expect_soon(count)
+        told = tab.run(BANNER)
+        passed(f"a slow link is told: {told.splitlines()[0][:60]}")
+        picture(tab, words, "slow")
+        slow.rate = None
+        tab.await_that(shown("> " + "x" * min(count, 70)), "what was typed meanwhile", 60)
+        tab.await_that(f"!({AWAY})", "it is new again", 60)
+
+
+def expect_soon(count):
+    time.sleep(0.1)
+    if count > 600:
+        raise Broken("in a minute it was not told that the link is slow")
+
+
+def check_gone(folder, words):
+    """A server that is killed, and one that ends."""
+    for name, number in (("killed", signal.SIGKILL), ("ended", signal.SIGTERM)):
+        room_of = os.path.join(folder, name)
+        os.mkdir(room_of)
+        with Room(room_of) as room:
+            tab, phone = room.open(), room.open("watch", width=360, height=740, is_touch=True,
+                                                prefers_color_scheme="dark")
+            tab.type("one")
+            tab.await_that(shown("> one"), "what was typed")
+            room.page.process.send_signal(number)
+            for it in (tab, phone):
+                it.await_that(AWAY, f"a server that is {name} is told", 10)
+            told = tab.run(BANNER)
+            expect("how it is started again is said", room.group[0].record in told
+                   and "open the address that it prints" in told, told)
+            expect("that it has ended is said if it is known",
+                   ("The page's server has ended" in told) == (number == signal.SIGTERM), told)
+            other = phone.run(BANNER)
+            expect("who watches is told no command", "ask whoever gave you its address" in other
+                   and room.group[0].record not in other, other)
+            check_contrast(phone, f"a server that is {name}")
+            check_width(phone, f"a server that is {name}", 360)
+            tab.type("x")
+            tab.await_that(f"{BANNER}.includes('1 key typed since then: refused.')", "refused")
+            picture(tab, words, f"server-{name}")
+            picture(phone, words, f"server-{name}-360")
+    passed("a server that is gone is told")

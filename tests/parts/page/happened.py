@@ -1,0 +1,353 @@
+"""What a page says of what has happened to a group, for tests/page: while its program stands still,
+after a loss, and after somebody has asked a node to lead."""
+
+from shared.paging.asks import Asks
+from shared.paging.course import IDLE, Course
+from shared.paging.marks import Marks
+from shared.paging.recovery import Recovery
+from shared.record import Ballot
+
+from ..checks import expect
+
+KILLED = "was killed (SIGKILL), and its supervisor starts it again"
+KEPT = " No key that was typed here is lost."
+
+
+def nodes_of(*states):
+    return [{"at": at, "node": at + 1, "state": it} for at, it in enumerate(states)]
+
+
+class Clock:
+    """A time that a test sets, in milliseconds."""
+
+    def __init__(self):
+        self.now = 100000
+
+    def __call__(self):
+        return self.now
+
+
+class Group:
+    """Three nodes, of which the test says in each second what they are and which one leads."""
+
+    def __init__(self):
+        self.clock, self.marks, self.said = Clock(), Marks(), []
+        self.recovery = Recovery(clock=self.clock)
+        self.live("uuu", 1)
+
+    def live(self, states, leader, seconds=1, fate="kept"):
+        """`states` has a u for each node that runs, and a d for each that does not."""
+        nodes = nodes_of(*({"u": "up", "d": "down"}[it] for it in states))
+        for _ in range(seconds):
+            self.recovery.note(nodes, 3, leader)
+            self.said.append(self.recovery.look(self.marks, nodes, 3, leader, fate))
+            self.clock.now += 1000
+
+    def lose(self, *numbers, text=KILLED):
+        """The nodes are lost now, in this order."""
+        for place, it in enumerate(numbers):
+            self.marks.add(it - 1, "ended", text, self.clock.now + place)
+
+    def rise(self, *numbers):
+        """The nodes are up again."""
+        for it in numbers:
+            self.marks.add(it - 1, "start", "is up again", self.clock.now)
+
+    def told(self):
+        said, self.said = [it for it in self.said if it], []
+        return said
+
+
+def check_recovery(_):
+    """After a loss it is told who was lost and who leads, and once all nodes run all that has
+    happened since the first loss, each once."""
+    check_one_lost()
+    check_two_lost()
+    check_lost_again()
+    check_fates()
+
+
+def check_one_lost():
+    group = Group()
+    group.lose(1)
+    group.live("duu", False, 3)
+    group.live("duu", 2, 5)
+    part = ("Node 1 was killed, and node 2 took over after about 3 seconds." + KEPT +
+            " Node 1 is missing.")
+    found = group.told()
+    expect("after the loss of a leader", found == [part], found)
+    group.live("uuu", 2, 5)
+    whole = ("In the last 8 seconds node 1 was killed. A majority ran all the time, but nobody led "
+             "for about 3 seconds: the program stood still meanwhile. The program continues. All 3 "
+             "nodes run again, and node 2 leads." + KEPT)
+    found = group.told()
+    expect("once it runs again", found == [whole], found)
+    group.live("uuu", 2, 5)
+    expect("it is told once", group.told() == [])
+    group = Group()
+    group.lose(3)
+    group.live("uud", 1)
+    group.live("uuu", 1, 5)
+    whole = ("In the last 2 seconds node 3 was killed. A majority ran, and a node led, all the "
+             "time. The program continues. All 3 nodes run again, and node 1 leads as before." +
+             KEPT)
+    found = group.told()
+    expect("a node that is soon up again has one sentence", found == [whole], found)
+    group = Group()
+    group.lose(2)
+    group.live("udu", None, 9)
+    expect("where it is unknown who leads nothing is told", group.told() == [])
+
+
+def check_two_lost():
+    group = Group()
+    group.lose(2, 1)
+    group.live("ddu", False, 4)
+    group.live("udu", False, 2)
+    group.live("udu", 3, 3)
+    group.live("uuu", 3, 3)
+    part = ("Nodes 2 and 1 were killed, in this order, and node 3 took over after about 6 seconds."
+            + KEPT + " Node 2 is missing.")
+    whole = ("In the last 9 seconds nodes 2 and 1 were killed, in this order. For about 4 seconds "
+             "no majority ran, and for about 2 seconds more nobody led: the program stood still "
+             "meanwhile. The program continues. All 3 nodes run again, and node 3 leads." + KEPT)
+    found = group.told()
+    expect("after the loss of two, and once all run again", found == [part, whole], found)
+    group = Group()
+    group.lose(1)
+    group.lose(2, text="has ended with status 1")
+    group.live("ddu", False, 2)
+    group.live("udu", 1, 3)
+    part = ("Node 1 was killed and node 2 has ended, and node 1 leads again after about 2 seconds."
+            + KEPT + " Node 2 is missing.")
+    found = group.told()
+    expect("two that are lost in two ways", found == [part], found)
+    group = Group()
+    group.lose(1, text="has ended")
+    group.live("dud", False, 2)
+    group.lose(1)
+    group.live("dud", False, 2)
+    group.rise(1)
+    group.live("uud", 1, 3)
+    part = ("Node 1 was killed, and it leads again after about 4 seconds." + KEPT +
+            " Node 3 is missing.")
+    found = group.told()
+    expect("a death that is told twice is one", found == [part], found)
+
+
+def check_lost_again():
+    """Two nodes that are killed again and again are told of once, with all of their deaths."""
+    group = Group()
+    for _ in range(3):
+        group.lose(1, 2)
+        group.live("ddu", False, 2)
+        group.rise(1, 2)
+        group.live("uuu", 3, 1)
+    group.lose(1)
+    group.live("duu", 3, 1)
+    group.rise(1)
+    group.live("uuu", 3, 5)
+    whole = ("In the last 11 seconds node 1 was killed 4 times and node 2 was killed 3 times. For "
+             "about 6 seconds no majority ran: the program stood still meanwhile. The program "
+             "continues. All 3 nodes run again, and node 3 leads." + KEPT)
+    found = group.told()
+    expect("two that are killed again and again", found == [whole], found)
+    group.live("uuu", 3, 20)
+    group.lose(2)
+    group.live("udu", 3, 1)
+    group.rise(2)
+    group.live("uuu", 3, 4)
+    found = group.told()
+    wanted = ("In the last 37 seconds node 1 was killed 4 times and node 2 was killed 4 times. For "
+              "about 6 seconds no majority ran")
+    expect("a loss within a minute belongs to those before",
+           len(found) == 1 and found[0].startswith(wanted), found)
+    group.live("uuu", 3, 70)
+    group.lose(2)
+    group.live("udu", 3, 1)
+    group.rise(2)
+    group.live("uuu", 3, 4)
+    found = group.told()
+    expect("a later one does not", len(found) == 1 and found[0].startswith(
+        "In the last 2 seconds node 2 was killed. A majority ran, and a node led, all the time."),
+        found)
+
+
+def check_fates():
+    """What is told of keys."""
+    for fate, wanted in (("lost", " Some typed keys are lost: a sentence names them."),
+                         ("kept", KEPT), ("none", "")):
+        group = Group()
+        group.lose(3)
+        group.live("uud", 1, 5, fate)
+        found = group.told()
+        said = f"Node 3 was killed, and node 1 leads as before.{wanted} Node 3 is missing."
+        expect(f"keys that are {fate}", found == [said], found)
+    group = Group()
+    group.lose(3)
+    group.live("uud", 1, 4, "unknown")
+    expect("it is waited for what becomes of keys", group.told() == [])
+    group.live("uud", 1, 4, "unknown")
+    found = group.told()
+    expect("but not for ever", found == ["Node 3 was killed, and node 1 leads as before. Node 3 is "
+                                         "missing."], found)
+
+
+class Story:
+    """The events of a group as a whole, in each half of a second."""
+
+    def __init__(self):
+        self.clock = Clock()
+        self.course, self.begun, self.said = Course(self.clock), self.clock.now, []
+
+    def live(self, states, leader, seconds):
+        words = {"u": "up", "d": "down", "k": "down"}
+        nodes = nodes_of(*(words[it] for it in states))
+        for it, was in zip(nodes, states):
+            it.update(supervised=was == "k", log=f"/log{it['node']}" if was == "k" else None,
+                      can_lead=it["state"] == "up", bytes=1)
+        for _ in range(2 * seconds):
+            for when, kind, text in self.course.look(nodes, 3, leader):
+                self.said.append(((when - self.begun) / 1000, kind, text))
+            self.clock.now += 500
+
+
+FEW = ("Only 1 of 3 nodes runs, and 2 are needed: the program stands still. What is typed "
+       "meanwhile is kept.")
+STOOD = "The program has stood still for a minute."
+AGAIN = "2 of 3 nodes run again, which is a majority: the program"
+
+
+def check_course(_):
+    """That the program stands still and goes on is told as it was, and after a minute what to do is
+    told once."""
+    story = Story()
+    story.live("uuu", 1, 2)
+    story.live("duu", False, 2)
+    story.live("duu", 2, 2)
+    story.live("duk", False, 4)
+    story.live("uuk", False, 2)
+    story.live("uuk", 2, 2)
+    wanted = [(2.0, "still", IDLE), (6.0, "still", FEW),
+              (10.0, "still", f"{AGAIN} continues once one of them leads.")]
+    expect("what becomes of a group, by seconds", story.said == wanted, *story.said)
+    story = Story()
+    story.live("duk", False, 3)
+    story.live("uuk", 1, 3)
+    expect("it goes on at once", story.said == [
+        (0.0, "still", FEW), (3.0, "again", f"{AGAIN} continues.")], story.said)
+    check_late()
+
+
+def check_late():
+    story = Story()
+    story.live("udk", False, 60)
+    expect("before the minute is over nothing is to be done", [it[1] for it in story.said] == [
+        "still"], story.said)
+    story.live("udk", False, 60)
+    late = (f"{STOOD} Node 3 does not stay up, though supervised: look "
+            "why, in /log3. Start node 2 again: by systemctl start pgroup@NAME, or "
+            "as before but without --new. If the nodes are on several machines, do so on each. "
+            "docs/NIGHT.md says more under \"What was lost\".")
+    expect("then it is said once what to do", story.said[1:] == [(60.5, "late", late)],
+           *story.said[1:])
+    story.live("uuk", 1, 5)
+    story.live("uuk", False, 70)
+    late = (f"{STOOD} Press the button that asks a node to lead, and once "
+            "more if it is refused. If nobody leads then, look in journalctl -u pgroup@NAME. "
+            "Otherwise nodes do not hear each other: look at the network between their machines. "
+            "docs/NIGHT.md says more under \"Quick answers\".")
+    found = [it[2] for it in story.said if it[1] == "late"][1:]
+    expect("and once more in the next one", found == [late], *found)
+
+
+class Asked:
+    """A session of three nodes, as far as requests to lead see it."""
+
+    class Seat:
+        def __init__(self, node, promised):
+            self.node, self.promised, self.process, self.is_there = node, promised, (node, 1), True
+
+        def record(self):
+            return self
+
+        def may_lead(self):
+            return self.promised if self.promised.node == self.node else None
+
+        def is_gone(self):
+            return not self.is_there
+
+        def is_up(self):
+            return self.is_there
+
+    def __init__(self, *promised):
+        self.clock, self.tally = Clock(), None
+        self.seats = [self.Seat(at, Ballot(*it)) for at, it in enumerate(promised, 1)]
+        self.asks = Asks(self.clock)
+
+    def name(self, at):
+        return f"node {at + 1}"
+
+    def live(self, seconds, leader=False, **promised):
+        """What is said in so many seconds. `promised` has ballots by n1, n2, n3."""
+        for name, it in promised.items():
+            self.seats[int(name[1]) - 1].promised = Ballot(*it)
+        said = []
+        for _ in range(2 * seconds):
+            said += self.asks.look(self, leader and Ballot(*leader))
+            self.clock.now += 500
+        return said
+
+
+def check_asks(_):
+    """One sentence says what has come of it that a node was asked to lead."""
+    asked = Asked((3, 2), (3, 2), (3, 2))
+    asked.asks.add(0, asked.seats[0])
+    expect("at once nothing is said", asked.live(1) == [])
+    said = asked.live(1, (4, 1), n1=(4, 1), n2=(4, 1))
+    expect("it leads", said == [("led", "Node 1 leads now.")] and not asked.live(60, (4, 1)), said)
+    asked.asks.add(0, asked.seats[0])
+    said = asked.live(1, (4, 1))
+    expect("it leads already", said == [("led", "Node 1 leads already.")], said)
+    check_refused()
+    asked = Asked((3, 2), (3, 2), (3, 2))
+    asked.asks.add(0, asked.seats[0])
+    said = asked.live(9)
+    expect("it does nothing", said == [("bad", "Nothing has come of it that node 1 was asked to "
+           "lead: it has not asked the others. Ask it once more, or another node.")], said)
+    asked.asks.add(0, asked.seats[0])
+    said = asked.live(9, n1=(4, 1))
+    expect("nobody answers it", said == [("bad", "Node 1 has asked the others and does not lead: "
+           "too few of them have answered. Look whether they hear each other, and ask it again.")],
+           said)
+    asked.asks.add(2, asked.seats[2])
+    asked.seats[2].is_there = False
+    said = asked.live(9)
+    expect("it has ended", said == [("bad", "Node 3 has ended since it was asked to lead. Ask "
+           "another node.")], said)
+    asked.seats[1].is_there = False
+    asked.asks.add(0, asked.seats[0])
+    said = asked.live(9, n1=(5, 1))
+    expect("no majority runs", said == [("bad", "Node 1 cannot lead: 1 of 3 nodes run, which is no "
+           "majority. Start others first.")], said)
+
+
+def check_refused():
+    refused = ("bad", "Node 1 was refused: node 3 has promised a greater ballot, 7.3. If node 1 "
+               "does not lead within seconds, ask it once more, or ask node 3, which knows it.")
+    asked = Asked((2, 1), (2, 1), (7, 3))
+    asked.asks.add(0, asked.seats[0])
+    said = asked.live(9, n1=(3, 1))
+    expect("it is refused", said == [refused], said)
+    said = asked.live(1, (8, 1), n1=(8, 1), n3=(8, 1))
+    expect("it has asked once more by itself", said == [("led", "Node 1 leads now after all.")]
+           and asked.live(60, (8, 1)) == [], said)
+    asked = Asked((2, 1), (2, 1), (7, 3))
+    asked.asks.add(0, asked.seats[0])
+    said = asked.live(1, n1=(3, 1)) + asked.live(2, (8, 1), n1=(8, 1), n3=(8, 1))
+    expect("it asks once more at once, and leads", said == [("led", "Node 1 leads now.")], said)
+    asked = Asked((2, 1), (2, 1), (2, 1))
+    asked.asks.add(1, asked.seats[1])
+    said = asked.live(9, (3, 3), n3=(3, 3), n1=(3, 3))
+    expect("another one leads", said == [("bad", "Node 2 does not lead: node 3 does, under ballot "
+           "3.3. So nothing is to be done.")], said)
