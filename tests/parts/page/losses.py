@@ -42,9 +42,9 @@ def check_few(folder):
         await_said(visitor, rf"{LOST}, and node 1 leads again after {SPAN}\. {KEPT} Node 2 is "
                    r"missing\.")
         room.group[1].begin()
-        await_said(visitor, rf"{LOST}\. 2 of 3 nodes are needed and only 1 ran, (so|and then a node "
-                   rf"had to be asked to lead:) the program stood still for {SPAN}( in all)?\. Both "
-                   rf"are up again, node 1 leads, and the program continues\. {KEPT}")
+        await_said(visitor, rf"{LOST}\. 2 of 3 nodes are needed and only 1 ran, (so|and then a "
+                   rf"node had to be asked to lead:) the program stood still for {SPAN}( in all)?"
+                   rf"\. Both are up again, node 1 leads, and the program continues\. {KEPT}")
     passed("without a majority: what happens, what to do, and afterwards what has happened")
 
 

@@ -193,9 +193,9 @@ def check_due():
          f"wait. Nodes 2 and 3 are started again by their supervisors. Once one of them runs, "
          f"{goes} {by_itself}"),
         ("two that are lost in two ways", [killed, {**killed, "loss": (300, "has ended")}], 10,
-         f"Node 2 was killed and node 3 has ended, both at once. {few} {still} What is typed is kept: 10 keys "
-         f"wait. Nodes 2 and 3 are started again by their supervisors. Once one of them runs, "
-         f"{goes} {by_itself}"),
+         f"Node 2 was killed and node 3 has ended, both at once. {few} {still} What is typed is "
+         "kept: 10 keys wait. Nodes 2 and 3 are started again by their supervisors. Once one of "
+         f"them runs, {goes} {by_itself}"),
         ("one that is supervised", [{"state": "down", "supervised": True}, {"state": "down"}], 1,
          f"Nodes 2 and 3 do not run. {few} {still} What is typed is kept: 1 key waits. Node 2 is "
          f"started again by its supervisor. Once it runs, {goes} {by_itself}"),

@@ -3,10 +3,10 @@
 from .sentences import in_order, lower, nodes_named, upper
 
 RUNS = ("up", "leads")
-SOON = ("The program waits until a node leads, usually a second or two. Go on typing: what you type "
-        "is kept.")
-ASKED = ("The program waits until a node leads. Unless a supervisor asks one, a person has to: it is "
-         "said below. What you type is kept.")
+SOON = ("The program waits until a node leads, usually a second or two. Go on typing: what you "
+        "type is kept.")
+ASKED = ("The program waits until a node leads. Unless a supervisor asks one, a person has to: it "
+         "is said below. What you type is kept.")
 
 
 def runs(nodes):

@@ -14,6 +14,7 @@ from .sentences import (
 # How long it is waited for to know what became of the keys, and for the last loss to be over; in
 # milliseconds. With more losses than these they are counted.
 PATIENCE, SETTLED, MOST = 5000, 1500, 4
+UP = "and is up again"
 KEYS = {"lost": " Some typed keys are lost: a sentence names them.",
         "kept": " No key that was typed here is lost."}
 
@@ -52,9 +53,9 @@ class Standing:
         """Why the program has stood still since then and for how long, or an empty text."""
         few, idle = self.lasted(since, "few"), self.lasted(since, "few", "idle")
         if few is not None:
-            up = self.least(since) or "none"
-            need = f"{size // 2 + 1} of {size} nodes are needed and only {up} ran"
-            need = need.replace("only none", "none")
+            up = self.least(since)
+            up = f"only {up}" if up else "none"
+            need = f"{size // 2 + 1} of {size} nodes are needed and {up} ran"
             if idle - few < 500:
                 return f"{need}, so the program stood still for {about(idle)}."
             return (f"{need}, and then a node had to be asked to lead: the program stood still for "
@@ -186,19 +187,19 @@ class Recovery:
         told = self.standing.told(since, size)
         is_known = self.standing.lasted(since, "unknown") is None and None not in self.leaders
         has_led = bool(nodes & self.leaders)
-        up = {1: f"Node {min(nodes)} is", 2: "Both are"}.get(len(nodes), "All are")
+        up = {1: f"Node {min(nodes)} is up again", 2: "Both are up again"}.get(
+            len(nodes), "All are up again")
         leads = f"{'it' if nodes == {leader} else f'node {leader}'} leads"
-        goes = f", and {leads}" if has_ended else f", {leads}, and the program continues"
         if has_ended:
-            return f"{who}. {up} up again{goes}."
+            return f"{who}. {up}, and {leads}."
+        if has_led and is_known:
+            told = told or "The program stood still for less than a second."
         if told or not is_known:
-            return " ".join(filter(None, [f"{who}.", told, f"{up} up again{goes}."]))
-        if has_led:
-            return (f"{who}. The program stood still for less than a second. {up} up again{goes}.")
-        still = "so the program did not stand still."
-        if len(self.lost) == 1:
-            return f"{who}, and is up again. It did not lead, {still}"
-        return f"{who}. {'It' if len(nodes) == 1 else 'They'} did not lead, {still} {up} up again."
+            then = f"{up}, {leads}, and the program continues."
+            return " ".join(filter(None, [f"{who}.", told, then]))
+        they = "It" if len(nodes) == 1 else "They"
+        still = f"{they} did not lead, so the program did not stand still."
+        return f"{who}, {UP}. {still}" if len(self.lost) == 1 else f"{who}. {still} {up}."
 
     def lost_with(self, node):
         """A node that was lost, with those that were lost at the same moment, as a sentence without
