@@ -3,8 +3,8 @@
 from .sentences import in_order, lower, nodes_named, upper
 
 RUNS = ("up", "leads")
-SOON = ("The program waits until a node leads, usually a second or two. Go on typing: what you "
-        "type is kept.")
+SHORTLY = ("The program waits until a node leads, usually a second or two. Go on typing: what "
+           "you type is kept.")
 ASKED = ("The program waits until a node leads. Unless a supervisor asks one, a person has to: it "
          "is said below. What you type is kept.")
 
@@ -73,7 +73,7 @@ def heading_of(nodes, size, leader, is_nobody, is_soon=False):
     said = "a majority" if majority else "and whether a majority runs is unknown"
     run = f"{up} of {size} nodes {run}, {said}{f'; {missing}' if missing else ''}"
     if is_nobody and not ended:
-        return SOON if is_soon else ASKED
+        return SHORTLY if is_soon else ASKED
     if is_nobody:
         return f"Nobody leads; {run}{more}"
     return f"{run}; {leader or 'who leads is unknown'}{more}"

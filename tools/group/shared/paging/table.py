@@ -16,7 +16,7 @@ from .clients import Clients
 from .counts import Counted
 from .course import Course
 from .due import due_of
-from .heading import SOON, flow_of, heading_of, majority_of, until_of, with_reasons
+from .heading import SHORTLY, flow_of, heading_of, majority_of, until_of, with_reasons
 from .heard import STILL, HeardTerminal, Readings
 from .lanes import Lane
 from .marks import Marks, now
@@ -318,7 +318,7 @@ class Table:
         is_soon = self.is_supervised() and not self.course.is_late()
         heading = heading_of(nodes, size, leads, is_nobody, is_soon)
         return {
-            "nodes": nodes, "size": size, "heading": heading, "is_soon": heading == SOON,
+            "nodes": nodes, "size": size, "heading": heading, "is_soon": heading == SHORTLY,
             "is_led": bool(leader), "due": due, "until": until_of(nodes, size, flow),
             "flow": "waits" if flow == "goes" and self.is_stuck(waiting) else flow,
             "session": self.view.session if self.view else session.number,

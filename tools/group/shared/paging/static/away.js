@@ -72,7 +72,7 @@ function lose() {
   if (isOld) return;
   isOld = true;
   dropAll();
-  line = list(LOST, "bad", serverNow());
+  line = list(LOST, "bad", shown ?? serverNow());
 }
 
 function look() {
