@@ -62,8 +62,13 @@ def states_of(visitor):
 
 
 def check_turns(visitor):
-    """Of each node deaths and starts are told in turns, the death first."""
+    """Of each node deaths and starts are told in turns, the death first. Between the two it is not
+    said to lead."""
     for at in range(3):
+        kinds = [it[3] for it in sorted(visitor.marks, key=lambda it: it[1]) if it[2] == at
+                 and it[3] in (*LOSSES, "start", "leads")]
+        dead = [it for it in zip(kinds, kinds[1:]) if it[0] in LOSSES and it[1] == "leads"]
+        expect(f"node {at + 1} is not said to lead after a death", not dead, kinds)
         kept = [it for it in visitor.marks if it[2] == at and it[3] in (*LOSSES, "start")]
         kinds = ["start" if it[3] == "start" else "ended"
                  for it in sorted(kept, key=lambda it: it[1])]

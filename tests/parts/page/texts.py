@@ -122,7 +122,7 @@ class Restarted:
 
     def __init__(self, process, ballot):
         self.process, self.votes, self.number = process, None, 1
-        self.was_seen, self.keys, self.is_dead = True, None, False
+        self.was_seen, self.keys, self.is_dead, self.has_ended = True, None, False, False
         self.node, self.promised, self.session, self.starts = 1, ballot, 7, 1
 
     def record(self):
@@ -139,7 +139,7 @@ class Restarted:
         return False
 
     def is_running(self, process):
-        return not self.is_dead and process == self.process
+        return not (self.is_dead or self.has_ended) and process == self.process
 
     def size(self):
         return None
@@ -166,6 +166,13 @@ def check_stale():
     told = [it[3:] for it in marks.since(0) if it[3] in ("leads", "ended", "gone", "start")]
     expect("what is told, in order", told == [("leads", "1.1"), ("ended", "has ended"),
            ("start", "is up again"), ("leads", "3.1")], told)
+    seat, marks = Restarted((10, 1), Ballot(1, 2)), Marks()
+    lane = Lane(0, seat, marks)
+    lane.look(Ballot(1, 2), [])
+    seat.promised, seat.has_ended = old, True
+    lane.look(old, [])
+    told = [it[3] for it in marks.since(0)]
+    expect("a node that has ended since it was looked at", "leads" not in told, told)
     for is_still, kind in ((False, "gone"), (True, "ended")):
         marks = Marks()
         follower = Lane(0, Restarted((10, 1), Ballot(1, 2)), marks)

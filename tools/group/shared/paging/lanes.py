@@ -96,7 +96,9 @@ class Lane:
     def is_led_by(self, leader):
         """Whether the node leads under this ballot: not under that of a process that has ended,
         which its record still has until the next one has begun it anew."""
-        return bool(leader) and leader == self.seat.may_lead() and not self.is_stale(leader)
+        is_own = leader and leader == self.seat.may_lead() and not self.is_stale(leader)
+        # Nor is it said to lead before it is told that it is up again.
+        return bool(is_own) and self.life.is_up is not False
 
     def is_stale(self, ballot):
         """Whether a ballot is one of an earlier process of the node."""
@@ -127,10 +129,11 @@ class Lane:
             self.marks.add(self.at, "start", "moves again")
         self.marks.add(self.at, "span", word)
         if word == "leads":
-            ballot = text_of_ballot(self.seat.may_lead())
+            ballot, when = text_of_ballot(self.seat.may_lead()), now()
             self.led.add(ballot)
-            if before:
-                self.marks.add(self.at, "leads", ballot)
+            # If it has ended since it was looked at, that it led would stand behind its death.
+            if before and not self.is_dying():
+                self.marks.add(self.at, "leads", ballot, when)
 
     def note_record(self, fresh):
         record = self.seat.record()
