@@ -13,6 +13,8 @@ from ..program import Broken
 from .looks import check_contrast, check_width
 from .room import Room, picture, said, shown
 
+DISABLED = ("[...document.querySelectorAll('#nodes button, #due button, #touch button')]"
+            ".every((it) => it.disabled)")
 AWAY = "!document.getElementById('away').hidden"
 BANNER = "document.getElementById('away').innerText"
 HEARD = "window.heard"
@@ -63,8 +65,14 @@ def check_frozen(folder, words):
         tab.await_that(AWAY, "the page says that it is old", 10)
         told = tab.run(BANNER)
         expect("it says since when, and what to do", told.startswith("Not connected since ")
-               and "What is shown here is from then." in told and "connects again by itself" in told
-               and "page" in told, told)
+               and "what is shown here is from then." in told and "connects again by itself" in told
+               and "Keys that are typed now are not taken. The nodes may still run" in told, told)
+        expect("no button can be pressed", tab.run(DISABLED))
+        expect("nothing is said of before", tab.run(
+            "document.getElementById('note').hidden && document.getElementById('due').hidden"))
+        expect("the list has it with its time", tab.run(
+            "/^[0-9:]{8}The connection to the page's server was lost/.test(document.getElementById("
+            "'said').lastElementChild.textContent)"))
         tab.type("xyz")
         tab.await_that(f"{BANNER}.includes('3 keys typed since then: refused.')",
                        "keys are refused, and that is seen")
@@ -78,6 +86,10 @@ def check_frozen(folder, words):
                        "that keys were refused is said")
         tab.await_that("/a majority; node 1 leads/.test(document.getElementById('heading')"
                        ".textContent)", "the heading is that of the group")
+        tab.await_that("document.querySelector('#touch button').disabled === false && "
+                       "[...document.querySelectorAll('#nodes button')].some((it) => !it.disabled)",
+                       "buttons can be pressed again")
+        tab.await_that(said("The connection to the page's server was lost."), "it can be read")
         tab.type(" two")
         tab.await_that(shown("> one two"), "keys are taken again")
         expect("what was refused was not typed", bytes_of(room.group[0].console) == b"> one two")

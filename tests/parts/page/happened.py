@@ -54,16 +54,19 @@ class Group:
             self.marks.add(it - 1, "start", "is up again", self.clock.now)
 
     def told(self):
+        """What was said, each with the seconds since the test began at which its event began."""
         said, self.said = [it for it in self.said if it], []
-        return said
+        return [((since - Clock().now) / 1000, text) for since, text in said]
 
 
 def check_recovery(_):
-    """After a loss it is told who was lost and who leads, and once all nodes run all that has
-    happened since the first loss, each once."""
+    """After a loss it is told who was lost and who leads, and once all nodes run all of the event,
+    each once. The next loss is another event."""
     check_one_lost()
+    check_followers()
     check_two_lost()
-    check_lost_again()
+    check_events()
+    check_often()
     check_fates()
 
 
@@ -72,31 +75,56 @@ def check_one_lost():
     group.lose(1)
     group.live("duu", False, 3)
     group.live("duu", 2, 5)
-    part = ("Node 1 was killed, and node 2 took over after about 3 seconds." + KEPT +
+    part = ("node 1 was killed, and node 2 took over after about 3 seconds." + KEPT +
             " Node 1 is missing.")
     found = group.told()
-    expect("after the loss of a leader", found == [part], found)
+    expect("after the loss of a leader", found == [(1.0, part)], found)
     group.live("uuu", 2, 5)
-    whole = ("In the last 8 seconds node 1 was killed. A majority ran all the time, but nobody led "
-             "for about 3 seconds: the program stood still meanwhile. The program continues. All 3 "
-             "nodes run again, and node 2 leads." + KEPT)
+    whole = ("node 1 was killed. Nobody led, so the program stood still for about 3 seconds. Node "
+             "1 is up again, node 2 leads, and the program continues." + KEPT)
     found = group.told()
-    expect("once it runs again", found == [whole], found)
+    expect("once it runs again", found == [(1.0, whole)], found)
     group.live("uuu", 2, 5)
     expect("it is told once", group.told() == [])
-    group = Group()
-    group.lose(3)
-    group.live("uud", 1)
-    group.live("uuu", 1, 5)
-    whole = ("In the last 2 seconds node 3 was killed. A majority ran, and a node led, all the "
-             "time. The program continues. All 3 nodes run again, and node 1 leads as before." +
-             KEPT)
-    found = group.told()
-    expect("a node that is soon up again has one sentence", found == [whole], found)
     group = Group()
     group.lose(2)
     group.live("udu", None, 9)
     expect("where it is unknown who leads nothing is told", group.told() == [])
+    group.live("uuu", 1, 4)
+    whole = "node 2 was killed. Node 2 is up again, node 1 leads, and the program continues."
+    found = group.told()
+    expect("and then nothing of what was unknown", found == [(1.0, whole + KEPT)], found)
+    group = Group()
+    group.lose(1)
+    group.live("uuu", 2, 5)
+    whole = ("node 1 was killed. The program stood still for less than a second. Node 1 is up "
+             "again, node 2 leads, and the program continues.")
+    found = group.told()
+    expect("a leader whose loss was hardly seen", found == [(1.0, whole + KEPT)], found)
+
+
+def check_followers():
+    """By the loss of nodes that do not lead the program does not stand still."""
+    group = Group()
+    group.lose(3)
+    group.live("uud", 1)
+    group.rise(3)
+    group.live("uuu", 1, 5)
+    one = "node 3 was killed, and is up again. It did not lead, so the program did not stand still."
+    found = group.told()
+    expect("a node that did not lead", found == [(1.0, one + KEPT)], found)
+    group.lose(3)
+    group.live("uud", 1)
+    group.rise(3)
+    group.live("uuu", 1)
+    group.lose(2)
+    group.live("udu", 1)
+    group.rise(2)
+    group.live("uuu", 1, 5)
+    two = ("node 3 was killed, then node 2 was killed. They did not lead, so the program did not "
+           "stand still. Both are up again.")
+    found = group.told()
+    expect("two that did not lead, one after the other", found == [(7.0, two + KEPT)], found)
 
 
 def check_two_lost():
@@ -106,22 +134,23 @@ def check_two_lost():
     group.live("udu", False, 2)
     group.live("udu", 3, 3)
     group.live("uuu", 3, 3)
-    part = ("Nodes 2 and 1 were killed, in this order, and node 3 took over after about 6 seconds."
+    part = ("nodes 1 and 2 were killed at once, and node 3 took over after about 6 seconds."
             + KEPT + " Node 2 is missing.")
-    whole = ("In the last 9 seconds nodes 2 and 1 were killed, in this order. For about 4 seconds "
-             "no majority ran, and for about 2 seconds more nobody led: the program stood still "
-             "meanwhile. The program continues. All 3 nodes run again, and node 3 leads." + KEPT)
+    whole = ("nodes 1 and 2 were killed at once. 2 of 3 nodes are needed and only 1 ran, and then "
+             "a node had to be asked to lead: the program stood still for about 6 seconds in all. "
+             "Both are up again, node 3 leads, and the program continues." + KEPT)
     found = group.told()
-    expect("after the loss of two, and once all run again", found == [part, whole], found)
+    expect("after the loss of two, and once all run again", found == [(1.0, part), (1.0, whole)],
+           found)
     group = Group()
     group.lose(1)
     group.lose(2, text="has ended with status 1")
     group.live("ddu", False, 2)
     group.live("udu", 1, 3)
-    part = ("Node 1 was killed and node 2 has ended, and node 1 leads again after about 2 seconds."
-            + KEPT + " Node 2 is missing.")
+    part = ("node 1 was killed and node 2 has ended, both at once, and node 1 leads again after "
+            "about 2 seconds." + KEPT + " Node 2 is missing.")
     found = group.told()
-    expect("two that are lost in two ways", found == [part], found)
+    expect("two that are lost in two ways", found == [(1.0, part)], found)
     group = Group()
     group.lose(1, text="has ended")
     group.live("dud", False, 2)
@@ -129,14 +158,62 @@ def check_two_lost():
     group.live("dud", False, 2)
     group.rise(1)
     group.live("uud", 1, 3)
-    part = ("Node 1 was killed, and it leads again after about 4 seconds." + KEPT +
+    part = ("node 1 was killed, and it leads again after about 4 seconds." + KEPT +
             " Node 3 is missing.")
     found = group.told()
-    expect("a death that is told twice is one", found == [part], found)
+    expect("a death that is told twice is one", found == [(1.0, part)], found)
+    group = Group()
+    group.lose(1, 2, 3)
+    group.live("ddd", False, 2)
+    group.live("uuu", 2, 3)
+    whole = ("nodes 1, 2 and 3 were killed at once. 2 of 3 nodes are needed and none ran, so the "
+             "program stood still for about 2 seconds. All are up again, node 2 leads, and the "
+             "program continues." + KEPT)
+    found = group.told()
+    expect("the loss of all", found == [(1.0, whole)], found)
 
 
-def check_lost_again():
-    """Two nodes that are killed again and again are told of once, with all of their deaths."""
+def check_events():
+    """The four kills of a demo: a leader, two at once, the same two, and one that does not lead.
+    Each is an event of its own, with its own times."""
+    group = Group()
+    group.lose(1)
+    group.live("duu", False, 1)
+    group.rise(1)
+    group.live("uuu", 2, 13)
+    for leader in (3, 1):
+        group.lose(2, 3)
+        group.live("udd", False, 1)
+        group.rise(2, 3)
+        group.live("uuu", leader, 6)
+    group.lose(2)
+    group.live("udu", 1, 1)
+    group.rise(2)
+    group.live("uuu", 1, 4)
+    goes = "and the program continues."
+    two = ("nodes 2 and 3 were killed at once. 2 of 3 nodes are needed and only 1 ran, so the "
+           f"program stood still for about a second. Both are up again, node {{}} leads, {goes}")
+    wanted = [
+        (1.0, "node 1 was killed. Nobody led, so the program stood still for about a second. Node "
+         f"1 is up again, node 2 leads, {goes}"), (15.0, two.format(3)), (22.0, two.format(1)),
+        (29.0, "node 2 was killed, and is up again. It did not lead, so the program did not stand "
+         "still."),
+    ]
+    found = group.told()
+    expect("each event is told alone", found == [(at, text + KEPT) for at, text in wanted], *found)
+    group.live("uuu", False, 7)
+    group.lose(2)
+    group.live("udu", False, 1)
+    group.rise(2)
+    group.live("uuu", 1, 4)
+    found = group.told()
+    expect("nobody led before, which is no part of it", [it[1] for it in found] == [
+        "node 2 was killed. Nobody led, so the program stood still for about a second. Node 2 is "
+        "up again, node 1 leads, and the program continues." + KEPT], found)
+
+
+def check_often():
+    """Two nodes that are killed again and again before the group is whole are counted."""
     group = Group()
     for _ in range(3):
         group.lose(1, 2)
@@ -146,31 +223,17 @@ def check_lost_again():
     group.lose(1)
     group.live("duu", 3, 1)
     group.rise(1)
+    group.lose(1)
+    group.live("duu", 3, 1)
+    group.rise(1)
     group.live("uuu", 3, 5)
-    whole = ("In the last 11 seconds node 1 was killed 4 times and node 2 was killed 3 times. For "
-             "about 6 seconds no majority ran: the program stood still meanwhile. The program "
-             "continues. All 3 nodes run again, and node 3 leads." + KEPT)
+    whole = ("node 1 was killed 5 times and node 2 was killed 3 times. 2 of 3 nodes are needed and "
+             "only 1 ran, so the program stood still for about 6 seconds. Both are up again, node "
+             "3 leads, and the program continues." + KEPT)
     found = group.told()
-    expect("two that are killed again and again", found == [whole], found)
-    group.live("uuu", 3, 20)
-    group.lose(2)
-    group.live("udu", 3, 1)
-    group.rise(2)
-    group.live("uuu", 3, 4)
-    found = group.told()
-    wanted = ("In the last 37 seconds node 1 was killed 4 times and node 2 was killed 4 times. For "
-              "about 6 seconds no majority ran")
-    expect("a loss within a minute belongs to those before",
-           len(found) == 1 and found[0].startswith(wanted), found)
-    group.live("uuu", 3, 70)
-    group.lose(2)
-    group.live("udu", 3, 1)
-    group.rise(2)
-    group.live("uuu", 3, 4)
-    found = group.told()
-    expect("a later one does not", len(found) == 1 and found[0].startswith(
-        "In the last 2 seconds node 2 was killed. A majority ran, and a node led, all the time."),
-        found)
+    expect("two that are killed again and again", found == [(1.0, whole)], found)
+    with_three = group.recovery.lost_with(3)
+    expect("nobody was lost with a node that runs", with_three is None, with_three)
 
 
 def check_fates():
@@ -181,16 +244,16 @@ def check_fates():
         group.lose(3)
         group.live("uud", 1, 5, fate)
         found = group.told()
-        said = f"Node 3 was killed, and node 1 leads as before.{wanted} Node 3 is missing."
-        expect(f"keys that are {fate}", found == [said], found)
+        said = f"node 3 was killed, and node 1 leads as before.{wanted} Node 3 is missing."
+        expect(f"keys that are {fate}", found == [(1.0, said)], found)
     group = Group()
     group.lose(3)
     group.live("uud", 1, 4, "unknown")
     expect("it is waited for what becomes of keys", group.told() == [])
     group.live("uud", 1, 4, "unknown")
     found = group.told()
-    expect("but not for ever", found == ["Node 3 was killed, and node 1 leads as before. Node 3 is "
-                                         "missing."], found)
+    expect("but not for ever", found == [(1.0, "node 3 was killed, and node 1 leads as before. "
+                                          "Node 3 is missing.")], found)
 
 
 class Story:

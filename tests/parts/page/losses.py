@@ -2,6 +2,7 @@
 
 import re
 
+from shared.paging.marks import LOST as LOSSES
 from shared.words import ask
 
 from ..checks import expect, passed
@@ -28,9 +29,9 @@ def check_few(folder):
         expect("what a key would do is said", told["waiting"] == 0 and told["flow"] == "waits"
                and told["until"] == "until 2 nodes run", told)
         visitor.press("kept")
-        due = (f"Nodes 2 and 3 have ended, in this order. {few}. The program stands still. What is "
-               "typed is kept: 4 keys wait. Start nodes 2 and 3, unless supervisors do so.")
-        visitor.await_that(lambda: visitor.group["due"]["text"] == due, due)
+        due = (rf"{LOST}\. {few}\. The program stands still\. What is typed is kept: 4 keys wait\. "
+               r"Start nodes 2 and 3, unless supervisors do so\.")
+        visitor.await_that(lambda: re.fullmatch(due, visitor.group["due"]["text"]), due)
         still = f"{few}: the program stands still. What is typed meanwhile is kept."
         visitor.await_that(lambda: still in visitor.sentences, still)
         room.group[2].begin()
@@ -38,16 +39,16 @@ def check_few(folder):
         visitor.await_that(lambda: not visitor.group["due"], "nothing is due")
         again = "2 of 3 nodes run again, which is a majority: the program continues"
         await_said(visitor, rf"{again}( once one of them leads)?\.")
-        await_said(visitor, "Nodes 2 and 3 have ended, in this order, and node 1 leads again after "
-                   rf"{SPAN}\. {KEPT} Node 2 is missing\.")
+        await_said(visitor, rf"{LOST}, and node 1 leads again after {SPAN}\. {KEPT} Node 2 is "
+                   r"missing\.")
         room.group[1].begin()
-        await_said(visitor, r"In the last (\d+ seconds|\d minutes) nodes 2 and 3 have ended, in "
-                   rf"this order\. For {SPAN} no majority ran(, and for {SPAN} more nobody led)?: "
-                   r"the program stood still meanwhile\. The program continues\. All 3 nodes run "
-                   rf"again, and node 1 leads\. {KEPT}")
+        await_said(visitor, rf"{LOST}\. 2 of 3 nodes are needed and only 1 ran, (so|and then a "
+                   rf"node had to be asked to lead:) the program stood still for {SPAN}( in all)?"
+                   rf"\. Both are up again, node 1 leads, and the program continues\. {KEPT}")
     passed("without a majority: what happens, what to do, and afterwards what has happened")
 
 
+LOST = r"([Nn]odes 2 and 3 have ended at once|[Nn]ode 2 has ended, then node 3 has ended)"
 SPAN = r"(about a second|about \d+ seconds|about \d minutes|less than a second)"
 KEPT = r"No key that was typed here is lost\."
 
@@ -61,9 +62,15 @@ def states_of(visitor):
 
 
 def check_turns(visitor):
-    """Of each node deaths and starts are told in turns, the death first."""
+    """Of each node deaths and starts are told in turns, the death first. Between the two it is not
+    said to lead."""
     for at in range(3):
-        kept = [it for it in visitor.marks if it[2] == at and it[3] in ("ended", "start")]
-        kinds = [it[3] for it in sorted(kept, key=lambda it: it[1])]
+        kinds = [it[3] for it in sorted(visitor.marks, key=lambda it: it[1]) if it[2] == at
+                 and it[3] in (*LOSSES, "start", "leads")]
+        dead = [it for it in zip(kinds, kinds[1:]) if it[0] in LOSSES and it[1] == "leads"]
+        expect(f"node {at + 1} is not said to lead after a death", not dead, kinds)
+        kept = [it for it in visitor.marks if it[2] == at and it[3] in (*LOSSES, "start")]
+        kinds = ["start" if it[3] == "start" else "ended"
+                 for it in sorted(kept, key=lambda it: it[1])]
         expect(f"node {at + 1}: {len(kinds)} deaths and starts take turns", kinds == [
             ("ended", "start")[it % 2] for it in range(len(kinds))], kept)

@@ -1,10 +1,14 @@
 """What a page says of a group and of its nodes, in sentences, for tests/page."""
 
 from shared.paging.due import due_of
-from shared.paging.heading import flow_of, heading_of, still_of, until_of, with_reasons
+from shared.paging.heading import flow_of, heading_of, until_of, with_reasons
+from shared.paging.lanes import Lane
 from shared.paging.life import Life, Pair
 from shared.paging.marks import Marks
+from shared.paging.moves import moved_of, still_of
+from shared.paging.recovery import Recovery
 from shared.paging.sentences import death_of, told_of
+from shared.record import Ballot
 
 from ..checks import expect
 
@@ -20,8 +24,8 @@ def check_heading(_):
          False),
         ("2 of 3 nodes run, a majority; node 3 is missing; node 1 leads", ("leads", "up", "down"),
          3, "node 1 leads", False),
-        ("Nobody leads, so the program stands still; 2 of 3 nodes run, a majority; node 1 is "
-         "missing", ("down", "up", "up"), 3, None, True),
+        ("The program waits until a node leads. Unless a supervisor asks one, a person has to: it "
+         "is said below. What you type is kept.", ("down", "up", "up"), 3, None, True),
         ("Node 1 is missing and node 3 is stopped. Only 1 of 3 nodes runs, and 2 are needed: the "
          "program stands still", ("down", "up", "stopped"), 3, None, True),
         ("Nodes 1 and 3 are missing. Only 1 of 3 nodes runs, and 2 are needed: the program stands "
@@ -41,7 +45,17 @@ def check_heading(_):
     ):
         found = heading_of(nodes(*states), size, leader, nobody)
         expect(what, found == what, found)
+    soon = ("The program waits until a node leads, usually a second or two. Go on typing: what you "
+            "type is kept.")
+    found = heading_of(nodes("up", "up", "up"), 3, None, True, True)
+    expect("while supervisors run, a group that nobody leads alarms nobody", found == soon, found)
+    ended = [{**it, "end": "its program has ended"} for it in nodes("up", "up", "up")]
+    found = heading_of(ended, 3, None, True, True)
+    expect("once the program has ended nothing is kept", found == "Nobody leads; 3 of 3 nodes run, "
+           "a majority; the program has ended, and reads no key any more", found)
     check_flow()
+    check_moved()
+    check_stale()
     check_due()
     check_idle()
     check_button()
@@ -65,11 +79,6 @@ def check_flow():
     ):
         found = flow_of(of, 3, nobody)
         expect(f"what becomes of keys {what}", found == wanted, found)
-    moved = "node 1 has ended: the session continues at node 2, and its console is shown."
-    still = moved.replace("the session continues at", "your session is at")
-    for is_still, wanted in ((False, moved), (True, still)):
-        found = still_of(moved, is_still)
-        expect("what is said of a session that has moved", found == wanted, found)
     for states, flow, wanted in (
         (("up", "up", "down"), "waits", "until a node leads"),
         (("up", "down", "down"), "waits", "until 2 nodes run"),
@@ -77,6 +86,101 @@ def check_flow():
     ):
         found = until_of(nodes(*states), 3, flow)
         expect(f"until when typed keys would wait: {wanted}", found == wanted, found)
+
+
+def check_moved():
+    """What is said of a session that has moved: who was lost, and all that were lost with it."""
+    moved = "Node 1 has ended: the session continues at node 2, and its console is shown."
+    for lost, wanted in (
+        (None, "Node 1 has ended"), ("Node 1 was killed", "Node 1 was killed"),
+        ("Nodes 1 and 3 were killed at once", "Nodes 1 and 3 were killed at once"),
+    ):
+        found = moved_of(moved, {1: lost}.get)
+        expect(f"a session that has moved, {lost}", found == f"{wanted}: you now type at node 2, "
+               "and see its console.", found)
+    other = "The session continues at node 3, as it was asked for."
+    expect("one that a person has moved", moved_of(other, {}.get) == other)
+    again = ("The keys that waited are typed now: the session continues at node 2, which runs "
+             "again, and its console is shown.")
+    still = again.replace("the session continues at", "your session is at")
+    for is_still, wanted in ((False, again), (True, still)):
+        found = still_of(moved_of(again, {}.get), is_still)
+        expect("one that has come back", found == wanted, found)
+    recovery, marks = Recovery(clock=lambda: 9000), Marks()
+    for when, at in ((1000, 2), (8000, 0), (8400, 2)):
+        marks.add(at, "ended", "was killed (SIGKILL)", when)
+        marks.add(at, "start", "is up again", when + 50)
+    recovery.look(marks, [{"at": at, **it} for at, it in enumerate(nodes("up", "up", "up"))], 3, 2,
+                  "kept")
+    found = recovery.lost_with(1)
+    expect("those that were lost with it are found", found == "Nodes 1 and 3 were killed at once",
+           found)
+
+
+class Restarted:
+    """A node whose record has the ballot of its earlier process until the next one has begun."""
+
+    def __init__(self, process, ballot):
+        self.process, self.votes, self.number = process, None, 1
+        self.was_seen, self.keys, self.is_dead, self.has_ended = True, None, False, False
+        self.node, self.promised, self.session, self.starts = 1, ballot, 7, 1
+
+    def record(self):
+        return self
+
+    def may_lead(self):
+        is_own = self.promised.node == self.node
+        return self.promised if is_own and not self.is_dead else None
+
+    def is_gone(self):
+        return self.is_dead
+
+    def is_stopped(self):
+        return False
+
+    def is_running(self, process):
+        return not (self.is_dead or self.has_ended) and process == self.process
+
+    def size(self):
+        return None
+
+
+def check_stale():
+    """A node is not said to lead under a ballot of a process that has ended; and its death is told
+    as one by which the program stands still, unless another node leads."""
+    old, new = Ballot(1, 1), Ballot(3, 1)
+    seat, marks = Restarted((10, 1), Ballot(1, 2)), Marks()
+    lane = Lane(0, seat, marks)
+    lane.look(Ballot(1, 2), [])
+    seat.promised = old
+    lane.look(old, [])
+    expect("it leads", lane.word == "leads", lane.word)
+    seat.is_dead = True
+    lane.look(False, [])
+    seat.is_dead, seat.process = False, (11, 2)
+    for _ in range(2):
+        lane.look(old, [])
+    expect("its next process does not lead under the old ballot", lane.word == "up", lane.word)
+    seat.promised = new
+    lane.look(new, [])
+    told = [it[3:] for it in marks.since(0) if it[3] in ("leads", "ended", "gone", "start")]
+    expect("what is told, in order", told == [("leads", "1.1"), ("ended", "has ended"),
+           ("start", "is up again"), ("leads", "3.1")], told)
+    seat, marks = Restarted((10, 1), Ballot(1, 2)), Marks()
+    lane = Lane(0, seat, marks)
+    lane.look(Ballot(1, 2), [])
+    seat.promised, seat.has_ended = old, True
+    lane.look(old, [])
+    told = [it[3] for it in marks.since(0)]
+    expect("a node that has ended since it was looked at", "leads" not in told, told)
+    for is_still, kind in ((False, "gone"), (True, "ended")):
+        marks = Marks()
+        follower = Lane(0, Restarted((10, 1), Ballot(1, 2)), marks)
+        follower.look(Ballot(1, 2), [])
+        follower.seat.is_dead, marks.is_still = True, is_still
+        follower.look(not is_still and Ballot(1, 2), [])
+        kinds = [it[3] for it in marks.since(0) if it[4] == "has ended"]
+        expect(f"the death of a node that does not lead, still {is_still}", kinds == [kind], kinds)
 
 
 def check_due():
@@ -87,13 +191,18 @@ def check_due():
     killed = {"state": "down", "supervised": True, "loss": (200, "was killed")}
     for what, of, waiting, wanted in (
         ("two that are supervised", [killed, {**killed, "loss": (100, "was killed")}], 10,
-         f"Nodes 3 and 2 were killed, in this order. {few} {still} What is typed is kept: 10 keys "
+         f"Nodes 2 and 3 were killed at once. {few} {still} What is typed is kept: 10 keys "
+         f"wait. Nodes 2 and 3 are started again by their supervisors. Once one of them runs, "
+         f"{goes} {by_itself}"),
+        ("two that are lost one after the other",
+         [killed, {**killed, "loss": (701, "was killed")}], 10,
+         f"Node 2 was killed, then node 3 was killed. {few} {still} What is typed is kept: 10 keys "
          f"wait. Nodes 2 and 3 are started again by their supervisors. Once one of them runs, "
          f"{goes} {by_itself}"),
         ("two that are lost in two ways", [killed, {**killed, "loss": (300, "has ended")}], 10,
-         f"Node 2 was killed and node 3 has ended. {few} {still} What is typed is kept: 10 keys "
-         f"wait. Nodes 2 and 3 are started again by their supervisors. Once one of them runs, "
-         f"{goes} {by_itself}"),
+         f"Node 2 was killed and node 3 has ended, both at once. {few} {still} What is typed is "
+         "kept: 10 keys wait. Nodes 2 and 3 are started again by their supervisors. Once one of "
+         f"them runs, {goes} {by_itself}"),
         ("one that is supervised", [{"state": "down", "supervised": True}, {"state": "down"}], 1,
          f"Nodes 2 and 3 do not run. {few} {still} What is typed is kept: 1 key waits. Node 2 is "
          f"started again by its supervisor. Once it runs, {goes} {by_itself}"),

@@ -1,8 +1,12 @@
 """The sentence above a page that says how its group is."""
 
-from .sentences import losses_named, lower, nodes_named, upper
+from .sentences import in_order, lower, nodes_named, upper
 
 RUNS = ("up", "leads")
+SHORTLY = ("The program waits until a node leads, usually a second or two. Go on typing: what "
+           "you type is kept.")
+ASKED = ("The program waits until a node leads. Unless a supervisor asks one, a person has to: it "
+         "is said below. What you type is kept.")
 
 
 def runs(nodes):
@@ -46,16 +50,17 @@ def missing_of(nodes):
 def losses_of(nodes):
     """How the nodes were lost that do not run, the first one first, in sentences."""
     down = [it for it in nodes if it["state"] in ("down", "stopped")]
-    seen = sorted((it for it in down if it.get("loss")), key=lambda it: it["loss"][0])
+    seen = [(it["loss"][0], it["node"], it["loss"][1]) for it in down if it.get("loss")]
     rest = [it["node"] for it in down if not it.get("loss")]
-    parts = [losses_named({it["node"]: [it["loss"][1]] for it in seen})] if seen else []
+    parts = [in_order(seen)] if seen else []
     if rest:
         parts.append(f"{nodes_named(rest)} {'does' if len(rest) == 1 else 'do'} not run")
     return "".join(f"{it}. " for it in parts)
 
 
-def heading_of(nodes, size, leader, is_nobody):
-    """`leader` is the text of who leads, or None."""
+def heading_of(nodes, size, leader, is_nobody, is_soon=False):
+    """`leader` is the text of who leads, or None. `is_soon` says that a supervisor asks a node to
+    lead, and that the program has not stood still for long."""
     up, is_known = len(runs(nodes)), all(it["state"] != "unknown" for it in nodes)
     run = "run" if is_known and len(nodes) == size else "are known to run"
     ends = [it["end"] for it in nodes if it.get("end")]
@@ -67,9 +72,10 @@ def heading_of(nodes, size, leader, is_nobody):
     more = f"; {ended}" if ended else ""
     said = "a majority" if majority else "and whether a majority runs is unknown"
     run = f"{up} of {size} nodes {run}, {said}{f'; {missing}' if missing else ''}"
+    if is_nobody and not ended:
+        return SHORTLY if is_soon else ASKED
     if is_nobody:
-        still = "" if ended else ", so the program stands still"
-        return f"Nobody leads{still}; {run}{more}"
+        return f"Nobody leads; {run}{more}"
     return f"{run}; {leader or 'who leads is unknown'}{more}"
 
 
@@ -106,12 +112,3 @@ def until_of(nodes, size, flow):
         return None
     is_few = majority_of(nodes, size) is False
     return f"until {size // 2 + 1} nodes run" if is_few else "until a node leads"
-
-
-def still_of(text, is_still):
-    """What the session says, for a page that others watch: and no more than is so while nobody
-    leads, or no majority runs."""
-    text = text.replace("Keys that you type wait here.", "Typed keys wait here.")
-    if not is_still:
-        return text
-    return text.replace("the session continues at node", "your session is at node")

@@ -63,6 +63,8 @@ class Lane:
     def __init__(self, at, seat, marks):
         self.at, self.seat, self.marks = at, seat, marks
         self.word, self.promised, self.led, self.was_read = None, None, set(), False
+        # By ballots: the process which was seen to promise it first.
+        self.owners = {}
         self.size, self.grown, self.shown = None, 0.0, ""
         self.log, self.read, self.logged, self.held = None, -READ, None, 0
         self.life, self.pair, self.shown_pair = Life(at, marks), Pair(), (None, None)
@@ -89,11 +91,23 @@ class Lane:
             return "down"
         if self.seat.is_stopped():
             return "stopped"
-        return "leads" if leader and leader == self.seat.may_lead() else "up"
+        return "leads" if self.is_led_by(leader) else "up"
+
+    def is_led_by(self, leader):
+        """Whether the node leads under this ballot: not under that of a process that has ended,
+        which its record still has until the next one has begun it anew."""
+        is_own = leader and leader == self.seat.may_lead() and not self.is_stale(leader)
+        # Nor is it said to lead before it is told that it is up again.
+        return bool(is_own) and self.life.is_up is not False
+
+    def is_stale(self, ballot):
+        """Whether a ballot is one of an earlier process of the node."""
+        return self.owners.get(ballot, self.seat.process) != self.seat.process
 
     def look(self, leader, fresh):
         """Notes what is new. `fresh` are the places at which it has voted since the last look."""
         word, process = self.state(leader), self.seat.process
+        self.life.leads = self.word == "leads"
         self.life.look(word == "down", process, bool(self.log) and self.is_supervised)
         self.shown_pair = self.pair.look(word == "down", process, self.seat.record())
         self.note_record(fresh)
@@ -115,15 +129,19 @@ class Lane:
             self.marks.add(self.at, "start", "moves again")
         self.marks.add(self.at, "span", word)
         if word == "leads":
-            ballot = text_of_ballot(self.seat.may_lead())
+            ballot, when = text_of_ballot(self.seat.may_lead()), now()
             self.led.add(ballot)
-            if before:
-                self.marks.add(self.at, "leads", ballot)
+            # If it has ended since it was looked at, that it led would stand behind its death.
+            if before and not self.is_dying():
+                self.marks.add(self.at, "leads", ballot, when)
 
     def note_record(self, fresh):
         record = self.seat.record()
         if record is None:
             return
+        # While a process is seen to run, what its record promises is its own.
+        if record.promised and self.seat.process and not self.seat.is_gone():
+            self.owners.setdefault(record.promised, self.seat.process)
         if self.was_read and record.promised and record.promised != self.promised:
             is_own = record.promised.node == record.node
             kind = "campaign" if is_own else "promise"

@@ -1,7 +1,7 @@
 """When a node has died, and when it is up again: each is told once, and a death before the node is
 up again. It is seen by the node's process, and told as the node's log says it."""
 
-from .marks import now
+from .marks import LOST, now
 from .sentences import verb_of
 
 # How long a log is waited for to say how a node has ended, and how far what is seen and what it
@@ -20,6 +20,8 @@ class Life:
         self.died, self.buried, self.spare = None, 0, None
         # While it is down: when it has died, and how, if that was seen.
         self.loss = None
+        # Whether it was seen to lead last, and what kind of mark tells the death.
+        self.leads, self.kind = False, LOST[0]
 
     def look(self, is_down, process, is_said):
         """`is_said` says whether a log is expected to tell of a death."""
@@ -37,6 +39,7 @@ class Life:
 
     def die(self, when):
         self.is_up, self.died, self.loss = False, when, (when, "has ended")
+        self.kind = LOST[0] if self.leads or self.marks.is_still else LOST[1]
         self.marks.add(self.at, "crash", "", when)
         spare, self.spare = self.spare, None
         if spare and spare[1] > max(self.buried, when - NEAR):
@@ -44,7 +47,7 @@ class Life:
 
     def tell(self, text, when):
         self.died, self.buried, self.loss = None, when, (when, verb_of(text))
-        self.marks.add(self.at, "ended", text, when)
+        self.marks.add(self.at, self.kind, text, when)
 
     def rise(self, process):
         again = " again" if self.buried else ""

@@ -5,6 +5,8 @@ import time
 
 # How many marks are kept, and the most characters of one.
 MARKS, TEXT = 4000, 200
+# The kinds that tell a death: one by which the program stands still, and another one.
+LOST = ("ended", "gone")
 
 
 def now():
@@ -16,6 +18,8 @@ class Marks:
 
     def __init__(self):
         self.kept, self.count, self.begun = collections.deque(maxlen=MARKS), 0, now()
+        # Whether it is known that nobody leads.
+        self.is_still = False
 
     def add(self, lane, kind, text="", when=None):
         self.count += 1

@@ -1,14 +1,20 @@
 """What has happened since nodes were lost, in some sentences: once the program goes on without
-them, and once all nodes run again. Then all of it is told: who was lost and how often, for how long
-the program stood still, and what became of typed keys."""
+them, and once all nodes run again. Then the event is told: who was lost and which of them at once,
+for how long the program stood still, and what became of typed keys. The next loss begins a new
+event."""
+
+import collections
 
 from .heading import majority_of, missing_of, runs
-from .marks import now
-from .sentences import about, losses_named, lower, upper, verb_of
+from .marks import LOST, now
+from .sentences import (
+    about, at_once, groups_at_once, in_order, losses_named, lower, nodes_named, upper, verb_of,
+)
 
-# How long it is waited for to know what became of the keys, and for the last loss to be over; and
-# within which time after that another loss belongs to those before it; in milliseconds.
-PATIENCE, SETTLED, JOINED = 5000, 1500, 60000
+# How long it is waited for to know what became of the keys, and for the last loss to be over; in
+# milliseconds. With more losses than these they are counted.
+PATIENCE, SETTLED, MOST = 5000, 1500, 4
+UP = "and is up again"
 KEYS = {"lost": " Some typed keys are lost: a sentence names them.",
         "kept": " No key that was typed here is lost."}
 
@@ -16,28 +22,45 @@ KEYS = {"lost": " Some typed keys are lost: a sentence names them.",
 def is_loss(kind, text):
     """Whether a mark tells that a node is lost."""
     is_stop = kind == "held" and text.startswith("is stopped")
-    return kind == "ended" or is_stop or kind == "crash" and bool(text)
+    return kind in LOST or is_stop or kind == "crash" and bool(text)
 
 
 class Standing:
-    """For how long nobody led, and for how long of that no majority ran, in milliseconds."""
+    """When nobody led, as spans of time: each with its begin and end, what is known of it, and how
+    many nodes ran at least, if too few did."""
 
     def __init__(self):
-        self.idle = self.few = 0
+        self.spans = collections.deque(maxlen=1000)
 
-    def add(self, span, is_idle, is_few):
-        self.idle += span * is_idle
-        self.few += span * is_few
+    def add(self, begin, end, what, up):
+        if self.spans and self.spans[-1][1:3] == [begin, what]:
+            last = self.spans[-1]
+            last[1], last[3] = end, min(last[3], up)
+        elif what != "goes":
+            self.spans.append([begin, end, what, up])
 
-    def told(self):
-        """That, and what it meant for the program."""
-        still, rest = "the program stood still meanwhile", self.idle - self.few
-        if self.few:
-            more = f", and for {about(rest)} more nobody led" if rest >= 500 else ""
-            return f"For {about(self.few)} no majority ran{more}: {still}."
-        if self.idle:
-            return f"A majority ran all the time, but nobody led for {about(self.idle)}: {still}."
-        return "A majority ran, and a node led, all the time."
+    def lasted(self, since, *what):
+        """For how long that was so since then, or None if it was not."""
+        found = [end - max(begin, since) for begin, end, it, _ in self.spans
+                 if it in what and end > since]
+        return sum(found) if found else None
+
+    def least(self, since):
+        """How many nodes ran at least since then, while they were too few."""
+        return min(up for _, end, it, up in self.spans if it == "few" and end > since)
+
+    def told(self, since, size):
+        """Why the program has stood still since then and for how long, or an empty text."""
+        few, idle = self.lasted(since, "few"), self.lasted(since, "few", "idle")
+        if few is not None:
+            up = self.least(since)
+            up = f"only {up}" if up else "none"
+            need = f"{size // 2 + 1} of {size} nodes are needed and {up} ran"
+            if idle - few < 500:
+                return f"{need}, so the program stood still for {about(idle)}."
+            return (f"{need}, and then a node had to be asked to lead: the program stood still for "
+                    f"{about(idle)} in all.")
+        return "" if idle is None else f"Nobody led, so the program stood still for {about(idle)}."
 
 
 class Recovery:
@@ -47,30 +70,35 @@ class Recovery:
     def __init__(self, settled=SETTLED, clock=now):
         self.settled, self.clock = settled, clock
         # How many marks were looked at, who led before the loss, and when it was looked last, with
-        # whether nobody led and no majority ran then.
-        self.count, self.leader, self.looked = 0, None, (None, False, False)
+        # what was so then and how many nodes ran.
+        self.count, self.leader, self.looked = 0, None, (None, "goes", 0)
+        self.standing = Standing()
         self.begin()
 
     def begin(self):
         """Nobody is lost."""
-        # How each node was lost, each time, the first node first. When that began, was seen last,
-        # and was over.
-        self.lost, self.begun, self.seen, self.ended = {}, None, 0, None
-        self.is_open, self.standing = False, Standing()
-        # Those that were not up again since then: of them a death may be told twice.
-        self.down = set()
+        # Each loss: when it was, the node, and how it was lost. When the last one was seen.
+        self.lost, self.seen = [], 0
+        # Who led since then, and those that were not up again: of them a death may be told twice.
+        self.leaders, self.down = set(), set()
         self.tell_anew()
 
     def tell_anew(self):
-        """What was lost so far is told. Who was lost since then, and when that began; when a node
-        led again, and whether none did meanwhile."""
-        self.untold, self.since, self.back, self.has_stood = {}, None, None, False
+        """What was lost so far is told. What was lost since then; when a node led again, and
+        whether none did meanwhile."""
+        self.untold, self.back, self.has_stood = [], None, False
+
+    def begun(self):
+        """When the first node was lost, or None."""
+        return min((it[0] for it in self.lost), default=None)
 
     def note(self, nodes, size, leader):
         """Notes for how long nobody leads, also while a death is not told yet."""
         when, (before, *was) = self.clock(), self.looked
-        self.looked = when, leader is False, majority_of(nodes, size) is False
-        self.standing.add(when - (before or when), *was)
+        words = {None: "unknown", False: "idle"}
+        what = "few" if majority_of(nodes, size) is False else words.get(leader, "goes")
+        self.looked = when, what, len(runs(nodes))
+        self.standing.add(before or when, when, *was)
         self.has_stood = self.has_stood or leader is False
 
     def note_losses(self, marks, nodes):
@@ -87,38 +115,39 @@ class Recovery:
         verb = verb.replace("is", "was", 1) if verb.startswith("is ") else verb
         if at in self.down:
             for lost in (self.lost, self.untold):
-                lost.get(node, [None])[-1] = verb
+                mine = [it for it in lost if it[1] == node]
+                if mine:
+                    mine[-1][2] = verb
             return
         self.down.add(at)
-        self.begun, self.since = self.begun or when, self.since or when
-        self.is_open, self.back, self.seen = True, None, self.clock()
-        for lost in (self.lost, self.untold):
-            lost.setdefault(node, []).append(verb)
+        self.leaders.add(self.leader)
+        self.back, self.seen = None, self.clock()
+        self.lost.append([when, node, verb])
+        self.untold.append([when, node, verb])
 
     def look(self, marks, nodes, size, leader, fate, has_ended=False):
         """`leader` is the number of the node that leads, False if it is known that none does, or
         None. `fate` is what has become of typed keys since the first loss: they are `lost`, `kept`
-        or `unknown`, or there are `none`. What is to be said, or None."""
+        or `unknown`, or there are `none`. What is to be said, and when that began; or None."""
         self.note_losses(marks, nodes)
         if not leader:
             self.back = None
             return None
-        if not self.is_open:
-            self.rest(leader)
+        if not self.lost:
+            # A node leads, and nothing is to be told.
+            self.leader, self.has_stood, self.standing = leader, False, Standing()
             return None
+        self.leaders.add(leader)
         self.back = self.back or self.clock()
         are_all = len(runs(nodes)) == size
         if not self.is_due(fate, max(self.seen, self.back) if are_all else self.seen):
             return None
         if are_all:
-            return self.whole(size, leader, has_ended) + KEYS.get(fate, "")
-        return self.part(nodes, leader, KEYS.get(fate, "")) if self.untold else None
-
-    def rest(self, leader):
-        """A node leads, and nothing is to be told."""
-        self.leader, self.has_stood = leader, False
-        if self.ended is None or self.clock() - self.ended > JOINED:
+            since, said = self.begun(), self.whole(size, leader, has_ended)
+            self.leader = leader
             self.begin()
+            return since, said + KEYS.get(fate, "")
+        return self.part(nodes, leader, KEYS.get(fate, "")) if self.untold else None
 
     def is_due(self, fate, since):
         """Whether nothing has changed since then, and it is known what became of keys."""
@@ -128,27 +157,52 @@ class Recovery:
 
     def part(self, nodes, leader, keys):
         """What has happened since it was told last, while nodes are missing."""
-        after = f"after {about(self.back - self.since)}"
-        who = "it" if list(self.untold) == [leader] else f"node {leader}"
+        since = min(it[0] for it in self.untold)
+        after = f"after {about(self.back - since)}"
+        who = "it" if {it[1] for it in self.untold} == {leader} else f"node {leader}"
         if leader != self.leader:
             then = f"{who} took over {after}"
         else:
             then = f"{who} leads again {after}" if self.has_stood else f"{who} leads as before"
         missing = missing_of(nodes)
         more = f" {upper(missing)}." if missing else ""
-        said = f"{losses_named(self.untold)}, and {then}.{keys}{more}"
+        said = f"{lower(self.named(self.untold))}, and {then}.{keys}{more}"
         self.tell_anew()
         self.leader = leader
-        return said
+        return since, said
+
+    def named(self, lost):
+        """Who was lost, in order, or counted if that is too much."""
+        if len(groups_at_once(lost)) <= MOST:
+            return in_order(lost)
+        by_node = {}
+        for _, node, verb in lost:
+            by_node.setdefault(node, []).append(verb)
+        return losses_named(by_node)
 
     def whole(self, size, leader, has_ended):
-        """All that has happened, once all nodes run."""
-        when, lost = self.clock(), lower(losses_named(self.lost))
-        said = [f"In the last {about(when - self.begun).removeprefix('about ')} {lost}.",
-                self.standing.told()]
-        said += [] if has_ended else ["The program continues."]
-        leads = "leads as before" if leader == self.leader and not self.standing.idle else "leads"
-        said.append(f"All {size} nodes run again, and node {leader} {leads}.")
-        self.is_open, self.ended, self.leader = False, when, leader
-        self.tell_anew()
-        return " ".join(said)
+        """All of the event, once all nodes run."""
+        since, who = self.begun(), lower(self.named(self.lost))
+        nodes = {it[1] for it in self.lost}
+        told = self.standing.told(since, size)
+        is_known = self.standing.lasted(since, "unknown") is None and None not in self.leaders
+        has_led = bool(nodes & self.leaders)
+        up = {1: f"Node {min(nodes)} is up again", 2: "Both are up again"}.get(
+            len(nodes), "All are up again")
+        leads = f"{'it' if nodes == {leader} else f'node {leader}'} leads"
+        if has_ended:
+            return f"{who}. {up}, and {leads}."
+        if has_led and is_known:
+            told = told or "The program stood still for less than a second."
+        if told or not is_known:
+            then = f"{up}, {leads}, and the program continues."
+            return " ".join(filter(None, [f"{who}.", told, then]))
+        they = "It" if len(nodes) == 1 else "They"
+        still = f"{they} did not lead, so the program did not stand still."
+        return f"{who}, {UP}. {still}" if len(self.lost) == 1 else f"{who}. {still} {up}."
+
+    def lost_with(self, node):
+        """A node that was lost, with those that were lost at the same moment, as a sentence without
+        its full stop; or None."""
+        found = [it for it in groups_at_once(self.lost) if node in [one[1] for one in it]]
+        return at_once(found[-1]) if found else None

@@ -12,6 +12,8 @@ AGAIN = "; the node is started again"
 # What stands behind the verb of what is told of a death.
 REST = re.compile(r" \(| with | by | refused|[,;:]")
 SIGNAL = re.compile(r"ended by (\w+)")
+# Nodes that are lost within this time are lost at once, in milliseconds.
+AT_ONCE = 500
 REFUSED = re.compile(r"refused by (\d+\.(\d+)) ballot (\d+\.\d+)")
 
 
@@ -96,13 +98,40 @@ def plural(verb, count):
 
 
 def losses_named(lost):
-    """Who was lost and how, as a sentence without its full stop. By each node `lost` has the verbs,
-    one for each time, the node that was lost first before the others."""
+    """How often nodes were lost and how, as a sentence without its full stop. By each node `lost`
+    has the verbs, one for each time, the node that was lost first before the others."""
     times = {1: "", 2: " twice"}
-    verbs = {it[0] for it in lost.values()}
-    if len(verbs) == 1 and all(len(it) == 1 for it in lost.values()):
-        order = ", in this order" if len(lost) > 1 else ""
-        return f"{nodes_named(lost)} {plural(*verbs, len(lost))}{order}"
     parts = [f"node {node} {it[-1]}{times.get(len(it), f' {len(it)} times')}"
              for node, it in lost.items()]
     return upper(listed(parts))
+
+
+def groups_at_once(lost):
+    """The losses in order, in groups that were at one moment. Each loss has its time, its node, and
+    its verb."""
+    groups = []
+    for it in sorted(lost):
+        last = groups[-1] if groups else []
+        is_near = last and it[0] - last[0][0] <= AT_ONCE
+        if is_near and it[1] not in [one[1] for one in last]:
+            last.append(it)
+        else:
+            groups.append([it])
+    return groups
+
+
+def at_once(group):
+    """Nodes that were lost at one moment, as a sentence without its full stop."""
+    group = sorted(group, key=lambda it: it[1])
+    numbers, verbs = [it[1] for it in group], {it[2] for it in group}
+    if len(group) == 1:
+        return f"{nodes_named(numbers)} {group[0][2]}"
+    if len(verbs) == 1:
+        return f"{nodes_named(numbers)} {plural(*verbs, len(group))} at once"
+    every = "both" if len(group) == 2 else "all"
+    return f"{upper(listed(f'node {node} {verb}' for _, node, verb in group))}, {every} at once"
+
+
+def in_order(lost):
+    """Who was lost and how, as a sentence without its full stop: the first one first."""
+    return upper(", then ".join(lower(at_once(it)) for it in groups_at_once(lost)))

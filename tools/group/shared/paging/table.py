@@ -16,10 +16,11 @@ from .clients import Clients
 from .counts import Counted
 from .course import Course
 from .due import due_of
-from .heading import flow_of, heading_of, majority_of, still_of, until_of, with_reasons
+from .heading import SHORTLY, flow_of, heading_of, majority_of, until_of, with_reasons
 from .heard import STILL, HeardTerminal, Readings
 from .lanes import Lane
 from .marks import Marks, now
+from .moves import moved_of, still_of
 from .recovery import Recovery
 
 # How often the session looks, in seconds: for some time after a key, while keys wait, and at the
@@ -204,6 +205,7 @@ class Table:
         said, self.unsaid = self.unsaid, []
         for kind, text in said:
             self.is_lossy = self.is_lossy or kind in LOSSES
+            text = moved_of(text, self.recovery.lost_with)
             self.note_sentence(kind, still_of(text, is_still or self.has_led(text)))
 
     def has_led(self, text):
@@ -211,15 +213,17 @@ class Table:
         return any(it["state"] == "leads" and text.startswith(f"Node {it['node']} ")
                    for it in self.group["nodes"])
 
-    def note_sentence(self, kind, text, when=None):
+    def note_sentence(self, kind, text, when=None, since=None):
+        """`since` is when that began, if it is told too."""
         self.said += 1
-        self.sentences.append((self.said, when or now(), kind, text))
+        self.sentences.append((self.said, when or now(), kind, text, since))
         self.version += 1
 
     def look(self):
         """Brings what is shown of the nodes up to date."""
         session, self.shot = self.session, time.monotonic()
         leader, count = self.leader(), self.marks.count
+        self.marks.is_still = leader is False
         for it in self.lanes:
             fresh = session.tally.take_fresh(it.number()) if session.tally else []
             it.look(leader, fresh)
@@ -243,10 +247,10 @@ class Table:
             self.note_sentence(kind, text, when)
         if not self.recovery.lost:
             self.is_lossy = False
-        said = self.recovery.look(self.marks, nodes, size, leader, self.fate_of_keys(),
+        told = self.recovery.look(self.marks, nodes, size, leader, self.fate_of_keys(),
                                   self.group["flow"] == "ended")
-        if said:
-            self.note_sentence("over", said)
+        if told:
+            self.note_sentence("over", told[1], since=told[0])
 
     def fate_of_keys(self):
         """What has become of keys that were typed here since a node was lost, in a word."""
@@ -270,6 +274,8 @@ class Table:
         if majority_of(states, self.size(len(states))) is False:
             return False
         leader, view = self.session.leader(), self.view
+        if leader and any(it.number() == leader.node and it.is_stale(leader) for it in self.lanes):
+            return False
         if leader is None and view:
             return view.leader() or (False if view.leads_nobody() else None)
         return leader
@@ -309,8 +315,10 @@ class Table:
         due = due_of(nodes, size, is_nobody, self.is_supervised(), waiting, self.course.is_late(),
                      self.are_gone(nodes))
         leads = f"node {leader.node} leads, ballot {text_of_ballot(leader)}" if leader else None
+        is_soon = self.is_supervised() and not self.course.is_late()
+        heading = heading_of(nodes, size, leads, is_nobody, is_soon)
         return {
-            "nodes": nodes, "size": size, "heading": heading_of(nodes, size, leads, is_nobody),
+            "nodes": nodes, "size": size, "heading": heading, "is_soon": heading == SHORTLY,
             "is_led": bool(leader), "due": due, "until": until_of(nodes, size, flow),
             "flow": "waits" if flow == "goes" and self.is_stuck(waiting) else flow,
             "session": self.view.session if self.view else session.number,

@@ -1,13 +1,15 @@
 // Whether what is shown is of now. A page that has heard nothing of its server for some seconds
 // says so, and since when, and takes no keys: nobody could say when they come.
 import { $, clock, make, many } from "./look.js";
-import { hear, say, serverNow, setAhead } from "./said.js";
+import { dropAll, hear, list, say, serverNow, setAhead } from "./said.js";
 
 // The server says something each second. After how long nothing is heard, or how late what is heard
 // comes, what is shown is old, in milliseconds.
 const OLD = 4000, ASLEEP = 1500;
+const LOST = "The connection to the page's server was lost.";
+const BUTTONS = "#nodes button, #due button, #touch button";
 let heard = Date.now(), ticked = heard, shown = null, isOld = false, isEnded = false, reason = "";
-let command = "", refused = 0, best = null, late = 0, told = "";
+let command = "", refused = 0, best = null, late = 0, told = "", line = null;
 let unsent = () => 0, restore = () => {};
 
 export const isAway = () => isOld;
@@ -22,6 +24,10 @@ export function noteHeard() {
   [isOld, isEnded, reason, best, late] = [false, false, "", null, 0];
   show();
   restore();
+  for (const it of document.querySelectorAll("#touch button")) it.disabled = false;
+  // A list that has begun anew lacks it.
+  if (line && !line.isConnected) list(LOST, "bad", +line.dataset.when);
+  line = null;
   if (refused) {
     say(`Connected again. ${many(refused, "key")} that you typed meanwhile ` +
       `${refused === 1 ? "was" : "were"} refused: type ${refused === 1 ? "it" : "them"} again.`,
@@ -46,7 +52,8 @@ export function setCommand(it) {
 
 // The server has ended, as it says itself; or it refuses this page, and says why.
 export function stop(why = "") {
-  [isOld, isEnded, reason] = [true, !why, why];
+  [isEnded, reason] = [!why, why];
+  lose();
   show();
 }
 
@@ -60,13 +67,21 @@ export function refuse(text) {
   requestAnimationFrame(() => box.classList.add("flash"));
 }
 
+// Nothing is heard any more: no button does anything, and what was said was said before.
+function lose() {
+  if (isOld) return;
+  isOld = true;
+  dropAll();
+  line = list(LOST, "bad", shown ?? serverNow());
+}
+
 function look() {
   const now = Date.now(), slept = now - ticked;
   ticked = now;
   // If this page itself did not run for a while, it hears first what has come meanwhile.
   if (slept > ASLEEP) heard = Math.max(heard, now - OLD + ASLEEP);
   if (document.hidden) return;
-  if (!isOld && now - heard > OLD) isOld = true;
+  if (now - heard > OLD) lose();
   show();
 }
 
@@ -78,7 +93,8 @@ function again(begin) {
 }
 
 function sentence() {
-  const since = shown === null ? "" : ` since ${clock(shown)}. What is shown here is from then`;
+  const since = shown === null ? "" : ` since ${clock(shown)}. Keys that are typed now are not ` +
+    "taken. The nodes may still run: what is shown here is from then";
   if (isEnded) return again(`Not connected${since}. The page's server has ended:`);
   if (reason) return [`Not connected${since}. ${reason}`];
   if (isOld) {
@@ -101,6 +117,8 @@ function show() {
   if (isOld && refused) lines.push(`${many(refused, "key")} typed since then: refused.`);
   $("refused").textContent = lines.join(" ");
   if (!isOld) return;
+  $("due").hidden = true;
+  for (const it of document.querySelectorAll(BUTTONS)) it.disabled = true;
   $("heading").textContent = `Not connected${shown === null ? "" : ` since ${clock(shown)}`}`;
   $("heading").className = "bad";
   $("role").textContent = "not connected";

@@ -1,7 +1,7 @@
 // The nodes: a card and a lane for each, and what a person can do about the group.
 import { $, draw, make, many } from "./look.js";
 import { isAway, shownNow } from "./away.js";
-import { dropEnds, dropOver, hear, say } from "./said.js";
+import { dropMoves, hear, say } from "./said.js";
 import { ask } from "./enter.js";
 import { focusKeys, setEnded } from "./keys.js";
 import { Lane } from "./lanes.js";
@@ -104,17 +104,27 @@ export function showGroup(told) {
     box.replaceChildren(...boxes);
     box.classList.toggle("many", boxes.length > FEW);
   }
-  $("heading").textContent === group.heading || ($("heading").textContent = group.heading);
-  $("heading").className = group.is_led ? "" : "bad";
+  const heading = forRole(group.heading);
+  $("heading").textContent === heading || ($("heading").textContent = heading);
+  $("heading").className = group.is_led ? "" : group.is_soon ? "soon" : "bad";
   $("session").textContent = group.session === null ? "" : `session ${group.session}`;
   showUsed();
   showFlow();
   $("at").textContent = group.seat === null ? "at no node of this machine" : `at ${group.name}`;
   $("waits").textContent = waits();
   showDue();
-  dropOver(group.flow);
-  dropEnds(group.nodes.filter((it) => ["up", "leads"].includes(it.state)).map((it) => it.node));
+  const up = group.nodes.filter((it) => ["up", "leads"].includes(it.state));
+  dropMoves(up.map((it) => it.node), group.seat === null ? "" : group.name);
   drawLanes();
+}
+
+// What is said to who types, for who only watches.
+export function forRole(text) {
+  if (role === "type") return text;
+  return text.replace("Go on typing: what you type is kept.", "What is typed is kept.")
+    .replace("What you type is kept.", "What is typed is kept.")
+    .replace(/you now type at (node \d), and see its console/,
+      "the session is now at $1, and its console is shown");
 }
 
 export const showAgain = () => group && showGroup(group);
@@ -161,6 +171,7 @@ function showDue() {
   box.className = due.at === null ? "bad" : "";
   if (text.textContent !== due.text) text.textContent = due.text;
   button.hidden = due.at === null || role !== "type";
+  button.disabled = isAway();
   button.textContent = due.at === null ? "" : `or ask node ${due.node} now`;
   button.onclick = () => act("/lead", due.at);
   if (had) followCursor();
@@ -169,7 +180,7 @@ function showDue() {
 // Of the banner each sentence is heard once, until there is none; of those about keys that wait the
 // first one. At first the heading is heard too.
 function hearDue() {
-  if (heardDue === null) hear(group.heading);
+  if (heardDue === null) hear(forRole(group.heading));
   heardDue ??= new Set();
   if (!group.due) return heardDue.clear();
   const plain = (it) => (/^What is typed|keys? waits?\.$/.test(it) ? "keys" : it);

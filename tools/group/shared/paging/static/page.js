@@ -1,13 +1,13 @@
 // The page of a group that runs: it shows its token, takes the stream of events, and hands each
 // event on.
-import { $, beginTheme } from "./look.js";
+import { $, beginTheme, clock } from "./look.js";
 import { beginAway, noteHeard, noteTime, setCommand, stop } from "./away.js";
-import { FRESH, beginSaid, clearSaid, dropAsked, hear, list, serverNow, setAhead, show }
+import { FRESH, beginSaid, clearSaid, dropAsked, dropOver, hear, list, serverNow, setAhead, show }
   from "./said.js";
 import { beginScreen, clearScreen, showScreen } from "./screen.js";
 import { enter } from "./enter.js";
 import { beginKeys, focusKeys, knownAs, myName, serverEnds, unsent } from "./keys.js";
-import { beginNodes, clearLanes, leave, note, showAgain, showGroup } from "./nodes.js";
+import { beginNodes, clearLanes, forRole, leave, note, showAgain, showGroup } from "./nodes.js";
 
 const SILENT = 15000, LONGEST = 5000;
 let stream = null, broken = 0, later = 0, tried = Date.now(), name = "";
@@ -22,9 +22,10 @@ function isNews(kind, number, when = serverNow()) {
   return isBack || serverNow() - when < FRESH;
 }
 
+const LOST = ["ended", "gone", "held"];
 const TOLD = {
   start: (it) => it, crash: (it) => it, held: (it) => it, log: (it) => it,
-  ended: (it) => it,
+  ended: (it) => it, gone: (it) => it,
   leads: (it) => `leads, under ballot ${it}`,
   campaign: (it) => `asks to lead, under ballot ${it}`,
 };
@@ -54,6 +55,7 @@ function noteMarks([time, marks]) {
   for (const [number, when, at, kind, text] of marks) {
     const name = note(at, when, kind, text), isNew = isNews("mark", number, when);
     if (kind === "leads") dropAsked(when);
+    if (LOST.includes(kind)) dropOver(when);
     if (!TOLD[kind] || !text) continue;
     list(`${name} ${TOLD[kind](text)}`, kind, when);
     if (isNew) hear(`${name} ${TOLD[kind](text)}`);
@@ -61,7 +63,8 @@ function noteMarks([time, marks]) {
 }
 
 // What the banner says too is heard there.
-function noteSaid([number, when, kind, text]) {
+function noteSaid([number, when, kind, said, since]) {
+  const text = (since ? `${clock(since)}: ` : "") + forRole(said);
   show(text, kind, when);
   if (isNews("said", number, when) && !["still", "late"].includes(kind)) hear(text);
 }

@@ -7,6 +7,8 @@ export const FRESH = 15000;
 // What the banner says too is in the list alone.
 const LISTED = ["still", "again", "late"];
 let noteEnds = 0, led = 0, ahead = 0, isFollowing = true, shape = "";
+// When nodes were lost last, and the summary of an event with the time at which it was said.
+let lost = 0, over = null;
 
 // By how much the server's clock is ahead of this one's.
 export const setAhead = (serverTime) => (ahead = serverTime - Date.now());
@@ -29,28 +31,67 @@ export function show(text, kind, when) {
   list(text, kind, when);
   if (LISTED.includes(kind)) return;
   if (serverNow() - when > FRESH || kind === "asked" && when <= led) return;
-  $("note").textContent = text;
-  $("note").className = kind;
-  $("note").hidden = false;
+  if (kind === "over" && when < lost) return;
+  if (kind === "over") over = text;
+  note(text, kind);
+}
+
+// What is said below the console. The summary of an event stays there until the next event, or
+// until a person closes it; all else stays for some seconds, and then the summary is there again.
+function note(text, kind) {
+  const box = $("note"), close = make("button", "", "×");
+  close.type = "button";
+  close.setAttribute("aria-label", "Close");
+  // A click leaves the focus where it is.
+  close.onpointerdown = (it) => it.preventDefault();
+  close.onclick = () => {
+    const had = document.activeElement === close;
+    if (kind === "over") over = null;
+    drop();
+    if (had) ($("keyboard").disabled ? $("view") : $("keyboard")).focus({ preventScroll: true });
+  };
+  box.replaceChildren(make("span", "", text), close);
+  box.className = kind;
+  box.hidden = false;
   clearTimeout(noteEnds);
-  noteEnds = setTimeout(() => ($("note").hidden = true), kind === "note" ? 5000 : FRESH);
+  if (kind !== "over") noteEnds = setTimeout(drop, kind === "note" ? 5000 : FRESH);
 }
 
-// That no node can take the session goes from below the console once one is up again.
-export function dropEnds(up) {
-  const ended = /\bnode (\d) (has ended|does not run|is stopped)/i.exec($("note").textContent);
-  if ($("note").className === "away" && ended && up.includes(+ended[1])) $("note").hidden = true;
+// Takes away what is said there, but not a summary that was there before.
+function drop() {
+  clearTimeout(noteEnds);
+  $("note").hidden = true;
+  if (over !== null) note(over, "over");
 }
 
-// That all goes on again goes from there once the program stands still once more.
-export function dropOver(flow) {
-  if (flow === "waits" && $("note").className === "over") $("note").hidden = true;
+// What was said before the connection was lost is not of now.
+export function dropAll() {
+  over = null;
+  drop();
+}
+
+// A node is lost: what was said of an earlier event is over.
+export function dropOver(when) {
+  lost = Math.max(lost, when);
+  if (over === null) return;
+  over = null;
+  if ($("note").className === "over") drop();
+}
+
+// That no node can take the session goes once one is up again; and where one types, once the
+// session is at another node.
+export function dropMoves(up, name) {
+  const { className, textContent } = $("note");
+  const ended = /\bnode (\d) (has ended|does not run|is stopped)/i.exec(textContent);
+  const at = /(?:type|is now) at (node \d)/.exec(textContent);
+  if (className === "away" && ended && up.includes(+ended[1])) drop();
+  if (className === "moved" && at && at[1] !== name) drop();
 }
 
 // That a node is asked goes from there once one leads.
 export function dropAsked(when) {
   led = when;
-  if ($("note").className === "asked") $("note").hidden = true;
+  if ($("note").className === "asked") drop();
 }
 
 // A line in the order of time.
@@ -63,6 +104,7 @@ export function list(text, kind, when) {
   box.insertBefore(line, before ? before.nextSibling : box.firstChild);
   while (box.children.length > KEPT) box.firstChild.remove();
   follow();
+  return line;
 }
 
 // The list shows its newest line, unless a person has scrolled back to older ones.
