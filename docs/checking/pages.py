@@ -143,11 +143,13 @@ SHARED_LEMMAS = re.compile(
 
 # What the proofs of one crate may cite besides: the witnesses of group_world are written down over
 # the small programs and the votes of those of group_rules; group_disk cuts off lists of starts as
-# group_process does; and group_progress goes on where the invariants of the worlds that are reached
-# end, and no crate stands on it.
+# group_process does, and has a witness over a small program; and group_progress goes on where the
+# invariants of the worlds that are reached end, and no crate stands on it.
 LEMMAS_FOR = {
     "group_world": re.compile(r"group_rules\.proofs\.(SmallPrograms|WrittenVotes)\."),
-    "group_disk": re.compile(r"group_process\.proofs\.RunFronts\."),
+    "group_disk": re.compile(
+        r"group_process\.proofs\.RunFronts\.|group_rules\.proofs\.SmallPrograms\."
+    ),
     "group_progress": re.compile(
         r"group_world\.proofs\.WorldAsGroup\."
         r"|paxos_msg\.proofs\.(Agreement|CountingNodes|Invariant)\."

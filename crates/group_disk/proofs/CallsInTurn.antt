@@ -1,26 +1,34 @@
 -- The calls of a node, one after the other, over one disk and at one terminal.
-use Rattle.std.proofs.Common.{◌≡◌, ◌∙◌, ◌++◌, ℕ, zero, suc, min, List, [], ◌∷◌, true, Option, None, Some, Result, length, take, drop, inl, inr, refl, sym, ap, subst, arith}
+use Rattle.std.proofs.Common.{◌≡◌, ◌∙◌, ◌++◌, ℕ, zero, suc, min, List, [], ◌∷◌, false, true, Option, None, Some, IfSome, Result, length, take, drop, inl, inr, refl, sym, ap, subst, arith}
+use Rattle.std.specs.List.{AllByRecursion}
 use Rattle.std.specs.Option.{option_to_list}
 use Rattle.std.proofs.lemmas.List.{take-append-drop, take_all}
 use Rattle.pcode_file.specs.Parts.{Parts}
+use Rattle.paxos_msg.specs.Fits.{IsGroup}
+use Rattle.paxos_msg.specs.Records.{empty_record}
 use Rattle.paxos_acceptor.specs.Stores.{StoreKind}
 use Rattle.paxos_acceptor.specs.declared.me.Me.{Me}
-use Rattle.paxos_disk.specs.Disks.{Folder}
-use Rattle.paxos_disk.specs.Found.{LoadsNoMore, disk_kind}
-use Rattle.paxos_disk.specs.Reads.{LogState}
+use Rattle.paxos_disk.specs.Disks.{FileState, FindsNoMore, Folder, IsLeft, IsLeftOfAny}
+use Rattle.paxos_disk.specs.Found.{LoadsNoMore, MayLoad, disk_kind}
+use Rattle.paxos_disk.specs.Reads.{IsFolderOf, LogState}
 use Rattle.group_udp.specs.declared.fault.GroupFault.{GroupFault}
 use Rattle.node_run.specs.declared.cycles.RunPlan.{RunPlan}
 use Rattle.node_run.specs.Going.{Around}
 use Rattle.node_run.specs.Runs.{RunsNode}
-use Rattle.group_process.specs.Runs.{FailsToStart, NodeRun, Starts}
+use Rattle.group_process.specs.Runs.{FailsToStart, IsOver, NodeRun, Starts, record_by}
 use Rattle.group_process.specs.Terminals.{TerminalRun, shown_after}
-use Rattle.group_disk.specs.DiskCalls.{AreCallsAt, AreDiskCalls, DiskCall, HaveStarts, IsCallWith, WriteAt, runs_of}
-use Rattle.group_disk.specs.Folders.{AreOverDisk, DiskStart, start_over}
+use Rattle.group_disk.specs.DiskCalls.{AreCallsAt, AreDiskCalls, DiskCall, FindsItsRecord, FindsOneOf, HaveStarts, IsCallWith, WriteAt, runs_of}
+use Rattle.group_disk.specs.Folders.{AreOverDisk, DiskStart, IsNew, start_over}
 use Rattle.group_disk.specs.Written.{IsWrittenAt}
-use Rattle.group_disk.proofs.DiskRuns.{refused_starts, run_starts}
+use Rattle.group_disk.proofs.DiskRuns.{in_both, refused_starts, run_starts}
 use Rattle.group_disk.proofs.RunsWrite.{run_writes}
 
 -- ---- over one disk
+
+-- where no more may be found, no more may be loaded
+loads_no_more : (old new : Folder) → FindsNoMore old new → LoadsNoMore old new
+loads_no_more old new fewer r may =
+    record { me = may.me; left = may.left; in_range = may.in_range; found = fewer may.left may.found; reads = may.reads }
 
 module _ {D : Type 0} (honest : Type 0) (folder_of : D → Folder) (is_honest : honest) (p : Parts) (me : Me) where
   -- starts over a disk are starts over one from which no less may be loaded
@@ -57,8 +65,40 @@ module _ {D : Type 0} (honest : Type 0) (folder_of : D → Folder) (is_honest : 
   pub have_starts : (folder : Folder) (calls : List (DiskCall D)) → AreDiskCalls honest folder_of p me folder calls
       → HaveStarts p me folder (runs_of calls)
   have_starts folder [] h = ([], tt, refl)
-  have_starts folder (c ∷ calls) (fewer, call, others) =
-      one_more folder c c.ran (runs_of calls) fewer call (have_starts (folder_of c.end.disk) calls others)
+  have_starts folder (c ∷ calls) (fewer, call, keeps, others) =
+      one_more folder c c.ran (runs_of calls) (loads_no_more folder (folder_of c.store.disk) fewer) call
+      (have_starts (folder_of c.end.disk) calls others)
+
+  -- what a restart reads after a run
+  finds_it : (c : DiskCall D) (ran : Option NodeRun) → IsGroup me.group → IsCallWith (disk_kind honest folder_of) p me c ran
+      → IsFolderOf me (folder_of c.end.disk)
+      → IfSome ran (λ run. FindsOneOf me (folder_of c.end.disk) (record_by run (IsOver false) ∷ record_by run (IsOver true) ∷ []))
+  finds_it c None small call good = tt
+  finds_it c (Some run) small (h, is_changed, is) good = rw is λ left may.
+      let (r, reads) = good left may in
+      let loads : MayLoad (folder_of c.end.disk) r =
+      record { me = me; left = left; in_range = small; found = may; reads = reads } in
+      (r, reads, in_both r _ _ (h.runs.leaves is_honest r loads))
+
+  -- each call leaves what the next one requires
+  pub find_records : (folder : Folder) (calls : List (DiskCall D)) → IsGroup me.group → IsFolderOf me folder
+      → AreDiskCalls honest folder_of p me folder calls → AllByRecursion (FindsItsRecord folder_of me) calls
+  find_records folder [] small good h = tt
+  find_records folder (c ∷ calls) small good (fewer, call, keeps, others) =
+      let begins : IsFolderOf me (folder_of c.store.disk) = λ left may. good left (fewer left may) in
+      let leaves : IsFolderOf me (folder_of c.end.disk) = keeps begins in (
+        record { begins = begins; leaves = leaves; finds = finds_it c c.ran small call leaves },
+        find_records (folder_of c.end.disk) calls small leaves others,
+      )
+
+-- in a new folder a restart finds no file
+pub new_folder : (me : Me) (folder : Folder) → IsNew folder → IsFolderOf me folder
+new_folder me folder new left (inl is) = (empty_record, rw (none_left folder.file left new.file is) refl)
+  where
+    none_left : (file : Option FileState) (left : Option (List ℕ)) → file ≡ None → IsLeft file left → left ≡ None
+    none_left None left e is = is
+    none_left (Some s) left e is = absurd cc
+new_folder me folder new left (inr any) = absurd (subst (λ files. IsLeftOfAny files left) new.others any)
 
 -- ---- at one terminal
 
@@ -118,6 +158,6 @@ module _ {D : Type 0} (honest : Type 0) (folder_of : D → Folder) (p : Parts) (
       → WriteAt full (runs_of calls) now
   write_at folder full shown j [] front are is =
       ([], refl, tt, record { rest = drop j full; whole = sym (take-append-drop j full) ∙ ap (λ l. l ++ drop j full) (sym (is ∙ front)) })
-  write_at folder full shown j (c ∷ calls) front (fewer, call, others) (kept, left, before, told, after, more) =
+  write_at folder full shown j (c ∷ calls) front (fewer, call, keeps, others) (kept, left, before, told, after, more) =
       write_more full shown left j kept c c.ran (runs_of calls) front call before told after
       (λ whole k e. write_at (folder_of c.end.disk) whole left k calls e others more)

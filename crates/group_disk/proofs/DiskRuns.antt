@@ -23,7 +23,7 @@ use Rattle.node_run.specs.Runs.{RunsNode}
 use Rattle.group_disk.specs.Folders.{DiskStart, IsOverDisk, LeavesNoMoreThan, start_over}
 
 -- one of two is in the list of both
-in_both : (r a b : Record) → IsOneOf r a b → Contains (a ∷ b ∷ []) r
+pub in_both : (r a b : Record) → IsOneOf r a b → Contains (a ∷ b ∷ []) r
 in_both r a b (inl first) = subst (λ (q : Record). Contains (a ∷ b ∷ []) q) (sym first) (first_in a (b ∷ []))
 in_both r a b (inr second) =
     subst (λ (q : Record). Contains (a ∷ b ∷ []) q) (sym second) (rest_in a (b ∷ []) b (first_in b []))

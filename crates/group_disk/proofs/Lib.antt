@@ -12,4 +12,5 @@ mod CallsInTurn
 mod DiskNetworks
 mod TornFiles
 mod TornLog
+mod RecordedRun
 mod WrongStarts

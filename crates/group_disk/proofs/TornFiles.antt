@@ -1,7 +1,7 @@
 -- Starts over one disk with all bytes of its file, in which a failed save was made and one was torn.
 use Rattle.std.proofs.lemmas.Bool.Decides.{nat_tests}
 use Rattle.std.proofs.lemmas.List.{append-nil, length-append, nil_from_length}
-use Rattle.std.proofs.Common.{◌≡◌, ◌⊎◌, ◌∙◌, ◌<◌, ℕ, zero, suc, nat_lt, Bool, false, true, List, [], ◌∷◌, ◌++◌, length, Option, Some, None, inl, inr, refl, sym, ap, subst, arith, lit<}
+use Rattle.std.proofs.Common.{◌≡◌, ◌⊎◌, ◌∙◌, ◌<◌, ℕ, zero, suc, nat_lt, Bool, false, true, List, [], ◌∷◌, ◌++◌, length, map, slice_get, take, Option, Some, None, inl, inr, refl, sym, ap, subst, arith, lit<}
 use Rattle.std.specs.List.{Contains, list_all}
 use Rattle.pcode_file.specs.Parts.{Parts}
 use Rattle.paxos_msg.specs.declared.ballot.Ballot.{Ballot}
@@ -21,11 +21,21 @@ use Rattle.paxos_disk.specs.Padding.{IsAppended}
 use Rattle.paxos_disk.specs.Reads.{Reads}
 use Rattle.paxos_disk.specs.Sectors.{torn}
 use Rattle.group_protocol.proofs.Elements.{entries_none, first_in, rest_in}
-use Rattle.group_protocol.specs.Known.{front}
+use Rattle.group_protocol.specs.Known.{Known, front}
+use Rattle.group_protocol.specs.ProposerRows.{on_campaign}
+use Rattle.group_node.specs.declared.player.Ran.TheVariants as more
+use Rattle.group_node.specs.NodeCalls.{Running}
+use Rattle.group_node.specs.Output.{no_progress}
+use Rattle.group_node.specs.States.{input}
+use Rattle.group_wire.specs.Doings.{DoesAll}
 use Rattle.group_wire.specs.Process.{IsProcess, started}
-use Rattle.group_disk.specs.Folders.{AreOverDisk}
-use Rattle.group_disk.specs.TornStarts.{appended_folder, campaigned, changes_of_four, changes_of_one, changes_of_three, changes_of_two, first_of_three, log_of_four, log_of_one, log_of_three, log_of_two, no_files, opening, promise_left, promise_lost, record_by_changes, renamed_folder, second_ballot, synced_folder, torn_starts}
+use Rattle.group_process.specs.Runs.{output_of, run_output, runs_in}
+use Rattle.group_process.specs.Terminals.{TerminalRun, WriteInTurn}
+use Rattle.group_disk.specs.Folders.{AreOverDisk, starts_of}
+use Rattle.group_disk.specs.TornStarts.{appended_folder, campaigned, changes_of_four, changes_of_one, changes_of_three, changes_of_two, first_of_three, letter_shown, log_of_four, log_of_one, log_of_three, log_of_two, no_files, opening, progress_if, promise_left, promise_lost, record_by_changes, renamed_folder, second_ballot, shows_byte, synced_folder, torn_starts}
 use Rattle.group_disk.specs.Wrong.{MayCampaign}
+use Rattle.group_rules.specs.SmallPrograms.{letter_program}
+use Rattle.group_rules.proofs.SmallPrograms.{StepsLaw, replays, runs, ten_of, waits, writes_letter}
 use Rattle.group_disk.proofs.TakenBack.{is_run}
 
 abbrev me : Me
@@ -64,19 +74,53 @@ synced_left bytes left (inr any) = absurd any
 pub start_next : (r : Record) → r.starts < LAST_START → IsEntry 3 r Start
 start_next r spare = record { in_ranges = tt; next = spare }
 
+-- a node can show a byte, or has not to
+abbrev pub CanShow : Parts → Bool → Type 0
+CanShow p is_shown = (who : Me) (n : Known)
+    → DoesAll who (record { known = n; progress = no_progress p }) (shows_byte is_shown)
+    (record { known = n; progress = progress_if p is_shown })
+
+pub shows_nothing : (p : Parts) → CanShow p false
+shows_nothing p who n = refl
+
+pub shows_letter : StepsLaw → CanShow letter_program true
+shows_letter steps who n =
+    let letter = writes_letter (input n) in (
+      record { known = n; progress = ten_of letter_program },
+      (more.More, refl, runs letter steps, replays letter, refl, (refl, refl)),
+      (
+        record { known = n; progress = progress_if letter_program true },
+        (65, ap (λ bytes. slice_get bytes 0) (waits letter), refl, refl, (refl, refl)),
+        refl,
+      ),
+    )
+
+-- what a node releases that has shown the letter
+pub letter_output : (n : Known) → output_of (record { known = n; progress = progress_if letter_program true }) ≡ 65 ∷ []
+letter_output n = ap (take 1) (writes_letter (input n)).writes
+
+-- what the runs of the first node release, and write at its terminal
+pub letter_released : map (λ (run : TerminalRun). run.released) (letter_shown 65)
+    ≡ map run_output (runs_in (starts_of (torn_starts letter_program true)))
+letter_released =
+    rw (letter_output (on_campaign (started letter_program me empty_record).known).node) refl
+
+pub letter_written : WriteInTurn [] (letter_shown 65)
+letter_written = (
+  record { told = refl; wrote = record { rest = []; whole = refl } },
+  (
+    record { told = refl; wrote = record { rest = []; whole = refl } },
+    (record { told = refl; wrote = record { rest = []; whole = refl } }, tt),
+  ),
+)
+
 -- the laws of logs and of disks, at this node
 module _ (new : IsUncut me header empty_record)
     (starts : (bytes : List ℕ) (r : Record) → IsUncut me bytes r → IsEntry 3 r Start → IsUncut me (bytes ++ 1 ∷ []) (changed r Start))
     (promises : (bytes : List ℕ) (r : Record) (b : Ballot) → IsUncut me bytes r → IsEntry 3 r (Promise b)
     → IsUncut me (bytes ++ 2 ∷ ballot_bytes b) (changed r (Promise b)))
-    (cut : (bytes : List ℕ) (r : Record) (b : Ballot) (xs ys : List ℕ) → IsUncut me bytes r → IsEntry 3 r (Promise b)
-    → 2 ∷ ballot_bytes b ≡ xs ++ ys → 0 < length ys → LogFound me (bytes ++ xs) r (length bytes))
-    (tears : (r : Record) (c : Change) (b : Ballot) (bytes xs ys : List ℕ) (lost : ℕ → Bool) → IsRecord 3 r → IsEntry 3 r c
-    → r.promised ≡ Some b → IsUncut me bytes r → IsAppended b (length bytes) c (xs ++ ys)
-    → ((n : ℕ) × LogFound me (bytes ++ torn lost (length bytes) xs) r n)
-    ⊎ ((n : ℕ) × LogFound me (bytes ++ torn lost (length bytes) xs) (changed r c) n))
     (one : (left : Option (List ℕ)) (r s : Record) (other : Me) → IsGroup other.group → Reads me left r → Reads other left s → s ≡ r)
-    (p : Parts) where
+    (p : Parts) (is_shown : Bool) (can : CanShow p is_shown) where
   abbrev r1 : Record
   r1 = record_by_changes changes_of_one
 
@@ -109,9 +153,6 @@ module _ (new : IsUncut me header empty_record)
 
   uncut_four : IsUncut me log_of_four r4
   uncut_four = starts log_of_three r3 uncut_three (start_next r3 (omega arith))
-
-  cut_three : LogFound me (log_of_three ++ promise_left) r3 (length log_of_three)
-  cut_three = cut log_of_three r3 second_ballot promise_left promise_lost uncut_three promise_next refl (omega arith)
 
   -- ---- what is loaded
 
@@ -156,24 +197,8 @@ module _ (new : IsUncut me header empty_record)
   in_ranges : IsRecord 3 r3
   in_ranges = record { starts = omega arith; kept = (((omega arith, omega arith), (omega arith, omega arith)), tt) }
 
-  appended_loads : LoadsOnly appended_folder (r3 ∷ changed r3 (Promise second_ballot) ∷ [])
-  appended_loads s may = elim may.found [
-    | inl (xs, ys, whole, lost, is) ↦
-        let left : List ℕ = log_of_three ++ torn lost (length log_of_three) xs in
-        let reads : Reads may.me (Some left) s = subst (λ (o : Option (List ℕ)). Reads may.me o s) is may.reads in
-        let some = subst (IsAppended opening (length log_of_three) (Promise second_ballot)) whole appended in
-        elim (tears r3 (Promise second_ballot) opening log_of_three xs ys lost in_ranges promise_next refl uncut_three some) [
-          | inl (n, found) ↦
-              subst (Contains (r3 ∷ changed r3 (Promise second_ballot) ∷ [])) (sym (read_one left r3 s n may.me found may.in_range reads))
-              (first_in r3 (changed r3 (Promise second_ballot) ∷ []))
-          | inr (n, found) ↦
-              subst (Contains (r3 ∷ changed r3 (Promise second_ballot) ∷ []))
-              (sym (read_one left (changed r3 (Promise second_ballot)) s n may.me found may.in_range reads))
-              (rest_in r3 (changed r3 (Promise second_ballot) ∷ []) (changed r3 (Promise second_ballot))
-              (first_in (changed r3 (Promise second_ballot)) []))
-        ]
-    | inr any ↦ absurd any
-  ]
+  pub loads_of_one : (s : Record) → MayLoad (synced_folder log_of_one) s → s ≡ r1
+  loads_of_one s may = synced_loads log_of_one r1 _ (uncut_found me log_of_one r1 uncut_one) s may
 
   loads_one : (bytes : List ℕ) (r other : Record) (n : ℕ) → LogFound me bytes r n → LoadsOnly (synced_folder bytes) (r ∷ other ∷ [])
   loads_one bytes r other n found s may =
@@ -200,50 +225,86 @@ module _ (new : IsUncut me header empty_record)
   front_is : (r : Record) → front (started p me r).known ≡ 0
   front_is r = rw entries_none refl
 
-  campaigned_is : IsProcess p me (campaigned p me).process (campaigned p me).last
+  abbrev after_campaign : Running
+  after_campaign = record { known = (on_campaign (started p me empty_record).known).node; progress = no_progress p }
+
+  pub campaigned_is : IsProcess p me (campaigned p me is_shown).process (campaigned p me is_shown).last
   campaigned_is = record {
     spare = λ e. absurd (omega (arith, e));
-    does = ((campaigned p me).last, rw (front_is empty_record) (refl, (refl, refl, refl)), refl);
+    does = (
+      after_campaign,
+      rw (front_is empty_record) (refl, (refl, refl, refl)),
+      can me after_campaign.known,
+    );
     fails = tt;
   }
 
   may_campaign : MayCampaign p me r2
   may_campaign = record { spare = omega arith; made = rw (front_is r2) tt }
 
-  pub are_over_disk : AreOverDisk p me no_files (torn_starts p)
-  are_over_disk = (
-    λ s may. may,
-    (
-      record { me = me; left = None; in_range = omega arith; found = inl refl; reads = refl },
-      campaigned_is,
-      tt,
-      loads_one log_of_one r1 _ _ (uncut_found me log_of_one r1 uncut_one),
-    ),
-    (
+  -- with torn ends
+  module _ (cut : (bytes : List ℕ) (r : Record) (b : Ballot) (xs ys : List ℕ) → IsUncut me bytes r → IsEntry 3 r (Promise b)
+      → 2 ∷ ballot_bytes b ≡ xs ++ ys → 0 < length ys → LogFound me (bytes ++ xs) r (length bytes))
+      (tears : (r : Record) (c : Change) (b : Ballot) (bytes xs ys : List ℕ) (lost : ℕ → Bool) → IsRecord 3 r → IsEntry 3 r c
+      → r.promised ≡ Some b → IsUncut me bytes r → IsAppended b (length bytes) c (xs ++ ys)
+      → ((n : ℕ) × LogFound me (bytes ++ torn lost (length bytes) xs) r n)
+      ⊎ ((n : ℕ) × LogFound me (bytes ++ torn lost (length bytes) xs) (changed r c) n)) where
+    cut_three : LogFound me (log_of_three ++ promise_left) r3 (length log_of_three)
+    cut_three = cut log_of_three r3 second_ballot promise_left promise_lost uncut_three promise_next refl (omega arith)
+
+    appended_loads : LoadsOnly appended_folder (r3 ∷ changed r3 (Promise second_ballot) ∷ [])
+    appended_loads s may = elim may.found [
+      | inl (xs, ys, whole, lost, is) ↦
+          let left : List ℕ = log_of_three ++ torn lost (length log_of_three) xs in
+          let reads : Reads may.me (Some left) s = subst (λ (o : Option (List ℕ)). Reads may.me o s) is may.reads in
+          let some = subst (IsAppended opening (length log_of_three) (Promise second_ballot)) whole appended in
+          elim (tears r3 (Promise second_ballot) opening log_of_three xs ys lost in_ranges promise_next refl uncut_three some) [
+            | inl (n, found) ↦
+                subst (Contains (r3 ∷ changed r3 (Promise second_ballot) ∷ [])) (sym (read_one left r3 s n may.me found may.in_range reads))
+                (first_in r3 (changed r3 (Promise second_ballot) ∷ []))
+            | inr (n, found) ↦
+                subst (Contains (r3 ∷ changed r3 (Promise second_ballot) ∷ []))
+                (sym (read_one left (changed r3 (Promise second_ballot)) s n may.me found may.in_range reads))
+                (rest_in r3 (changed r3 (Promise second_ballot) ∷ []) (changed r3 (Promise second_ballot))
+                (first_in (changed r3 (Promise second_ballot)) []))
+          ]
+      | inr any ↦ absurd any
+    ]
+
+    pub are_over_disk : AreOverDisk p me no_files (torn_starts p is_shown)
+    are_over_disk = (
       λ s may. may,
       (
-        may_load log_of_one r1 _ refl (uncut_found me log_of_one r1 uncut_one),
-        λ e. absurd (omega (arith, e)),
-        renamed_loads,
+        record { me = me; left = None; in_range = omega arith; found = inl refl; reads = refl },
+        campaigned_is,
+        tt,
+        loads_one log_of_one r1 _ _ (uncut_found me log_of_one r1 uncut_one),
       ),
       (
-        crash_of_renamed,
+        λ s may. may,
         (
-          may_load log_of_two r2 _ refl (uncut_found me log_of_two r2 uncut_two),
-          is_run p me r2 false may_campaign,
-          tt,
-          appended_loads,
+          may_load log_of_one r1 _ refl (uncut_found me log_of_one r1 uncut_one),
+          λ e. absurd (omega (arith, e)),
+          renamed_loads,
         ),
         (
-          crash_of_appended,
+          crash_of_renamed,
           (
-            may_load (log_of_three ++ promise_left) r3 _ refl cut_three,
-            record { spare = λ e. absurd (omega (arith, e)); does = refl; fails = tt },
+            may_load log_of_two r2 _ refl (uncut_found me log_of_two r2 uncut_two),
+            is_run p me r2 false may_campaign,
             tt,
-            loads_one log_of_four r4 _ _ (uncut_found me log_of_four r4 uncut_four),
+            appended_loads,
           ),
-          tt,
+          (
+            crash_of_appended,
+            (
+              may_load (log_of_three ++ promise_left) r3 _ refl cut_three,
+              record { spare = λ e. absurd (omega (arith, e)); does = can me (started p me r3).known; fails = tt },
+              tt,
+              loads_one log_of_four r4 _ _ (uncut_found me log_of_four r4 uncut_four),
+            ),
+            tt,
+          ),
         ),
       ),
-    ),
-  )
+    )

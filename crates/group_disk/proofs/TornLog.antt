@@ -1,8 +1,8 @@
 -- Two nodes over their disks, of which the second hears the first, as a log of their group.
 use Rattle.std.proofs.lemmas.Bool.{cases_eq, ne_eqb}
 use Rattle.std.proofs.lemmas.Bool.Decides.{nat_tests}
-use Rattle.std.proofs.Common.{◌≡◌, ◌≤◌, ◌++◌, ℕ, List, [], ◌∷◌, flat_map, length, map, Option, Some, inl, inr, refl, sym, subst, arith}
-use Rattle.std.specs.List.{Contains}
+use Rattle.std.proofs.Common.{◌≡◌, ◌≤◌, ◌++◌, ℕ, Bool, false, true, List, [], ◌∷◌, drop, flat_map, length, map, Option, Some, inl, inr, refl, sym, subst, arith}
+use Rattle.std.specs.List.{AllByRecursion, Contains}
 use Rattle.pcode_file.specs.Parts.{Parts}
 use Rattle.paxos_msg.specs.declared.ballot.Ballot.{Ballot}
 use Rattle.paxos_msg.specs.declared.message.Group.{Group}
@@ -23,10 +23,10 @@ use Rattle.group_protocol.specs.Packets.{Datagram}
 use Rattle.group_wire.specs.Arrivals.{Spells}
 use Rattle.group_wire.specs.Process.{IsProcess, started}
 use Rattle.group_world.specs.Group.{messages_in}
-use Rattle.group_world.specs.Processes.{entries_of}
+use Rattle.group_world.specs.Processes.{IsCarried, entries_of}
 use Rattle.group_process.specs.Runs.{entries_of_attempt}
 use Rattle.group_disk.specs.Folders.{AreOverDisk, IsFolderLog, starts_of}
-use Rattle.group_disk.specs.TornStarts.{changes_of_one, first_campaign, first_heard, first_of_three, first_prepare, log_of_second, no_files, opening, record_by_changes, second_of_three, second_starts, synced_folder, torn_group, torn_log, torn_starts}
+use Rattle.group_disk.specs.TornStarts.{changes_of_one, first_campaign, first_heard, first_of_three, first_prepare, log_of_second, no_files, opening, record_by_changes, second_of_three, second_starts, synced_folder, torn_entries, torn_group, torn_log, torn_starts}
 use Rattle.group_disk.proofs.TornFiles.{start_next, synced_left, uncut_found}
 
 abbrev group : Group
@@ -48,7 +48,7 @@ module _ (new : IsUncut me header empty_record)
     (short : (g : Group) (m : Msg) → Fits g m → length (spelling g m) ≤ 440)
     (was_sent : (g : Group) (sent : List Datagram) (bytes : List ℕ) (m : Msg) → IsGroup g → Msgs g bytes m
     → Contains (map (λ x. x.bytes) sent) bytes → Contains (messages_in g sent) m)
-    (p : Parts) where
+    (p : Parts) (is_shown : Bool) where
   abbrev r1 : Record
   r1 = record_by_changes changes_of_one
 
@@ -103,12 +103,17 @@ module _ (new : IsUncut me header empty_record)
   heard = was_sent group (first_campaign p first_of_three).sent (spelling group (first_prepare p)) (first_prepare p) (omega arith)
       (record { fits = fits; spelled = refl }) (first_in _ [])
 
-  entries_are : (i : ℕ) → entries_of i (torn_log p)
-      ≡ flat_map (entries_of_attempt (record { node = i; group = group })) (starts_of (torn_group p i))
-  entries_are i = grind (arith, nat_tests)
+  entries_are : (i : ℕ) → entries_of i (torn_log p is_shown)
+      ≡ flat_map (entries_of_attempt (record { node = i; group = group })) (starts_of (torn_group p is_shown i))
+  entries_are i = by is_shown
+    where
+      by : (b : Bool) → entries_of i (torn_log p b)
+          ≡ flat_map (entries_of_attempt (record { node = i; group = group })) (starts_of (torn_group p b i))
+      by false = grind (arith, nat_tests)
+      by true = grind (arith, nat_tests)
 
-  started_are : AreOverDisk p first_of_three no_files (torn_starts p) → (i : ℕ)
-      → AreOverDisk p (record { node = i; group = group }) no_files (torn_group p i)
+  started_are : AreOverDisk p first_of_three no_files (torn_starts p is_shown) → (i : ℕ)
+      → AreOverDisk p (record { node = i; group = group }) no_files (torn_group p is_shown i)
   started_are first i = elim (cases_eq 1 i) [
     | inl same ↦ rw (sym same) first
     | inr ne ↦ rw (ne_eqb 1 i ne) (elim (cases_eq 2 i) [
@@ -123,18 +128,22 @@ module _ (new : IsUncut me header empty_record)
   node_2 : IsNode 3 2
   node_2 = (omega arith, omega arith)
 
-  pub is_logged : AreOverDisk p first_of_three no_files (torn_starts p)
-      → IsFolderLog p group (λ i. no_files) (torn_group p) (torn_log p)
+  -- the entries of the first node after its campaign
+  last_of_first : (b : Bool) → AllByRecursion (λ e. IsNode 3 e.node) (drop 2 (torn_entries p b))
+  last_of_first false = (node_1, (node_1, (node_1, (node_1, (node_1, (node_1, tt))))))
+  last_of_first true =
+      (node_1, (node_1, (node_1, (node_1, (node_1, (node_1, (node_1, (node_1, (node_1, (node_1, tt))))))))))
+
+  last_carried : (sent : List Datagram) (b : Bool) → IsCarried group sent (drop 2 (torn_entries p b))
+  last_carried sent false = (tt, (tt, (tt, (tt, (tt, (tt, tt))))))
+  last_carried sent true = (tt, (tt, (tt, (tt, (tt, (tt, (tt, (tt, (tt, (tt, tt))))))))))
+
+  pub is_logged : AreOverDisk p first_of_three no_files (torn_starts p is_shown)
+      → IsFolderLog p group (λ i. no_files) (torn_group p is_shown) (torn_log p is_shown)
   is_logged first = record {
-    among = (
-      node_1,
-      (
-        node_1,
-        (node_2, (node_2, (node_2, (node_1, (node_1, (node_1, (node_1, (node_1, (node_1, tt))))))))),
-      ),
-    );
+    among = (node_1, (node_1, (node_2, (node_2, (node_2, last_of_first is_shown)))));
     entries = entries_are;
     begun = λ i. record { file = refl; others = refl };
     started = started_are first;
-    carried = (tt, (tt, (tt, (heard, (tt, (tt, (tt, (tt, (tt, (tt, (tt, tt)))))))))));
+    carried = (tt, (tt, (tt, (heard, (tt, last_carried _ is_shown)))));
   }

@@ -1,15 +1,16 @@
 -- The calls of `run_over_disk` at one node, one after the other over one disk and at one terminal.
-use Rattle.std.specs.Prelude.{◌≡◌, ℕ, Bool, List, [], ◌∷◌, flat_map, length, map, take, Option, None, Some, Result}
+use Rattle.std.specs.Prelude.{◌≡◌, ℕ, Bool, false, true, List, [], ◌∷◌, Contains, flat_map, length, map, take, Option, None, Some, IfSome, Result}
 use Rattle.std.specs.Option.{option_to_list}
 use Rattle.pcode_file.specs.Parts.{Parts}
 use Rattle.pcode_machine.specs.Runs.{IsPrefix}
 use Rattle.paxos_acceptor.specs.Stores.{StoreKind}
 use Rattle.paxos_acceptor.specs.declared.me.Me.{Me}
-use Rattle.paxos_disk.specs.Disks.{Folder}
-use Rattle.paxos_disk.specs.Found.{LoadsNoMore, disk_kind}
-use Rattle.paxos_disk.specs.Reads.{LogState}
+use Rattle.paxos_msg.specs.Batches.{Record}
+use Rattle.paxos_disk.specs.Disks.{FindsNoMore, Folder, MayFind}
+use Rattle.paxos_disk.specs.Found.{disk_kind}
+use Rattle.paxos_disk.specs.Reads.{IsFolderOf, LogState, Reads}
 use Rattle.group_udp.specs.declared.fault.GroupFault.{GroupFault}
-use Rattle.group_process.specs.Runs.{Attempt, IsOver, NodeRun, run_output, runs_in}
+use Rattle.group_process.specs.Runs.{Attempt, IsOver, NodeRun, record_by, run_output, runs_in}
 use Rattle.group_process.specs.Terminals.{TerminalRun, WriteInTurn, terminal_after}
 use Rattle.node_run.specs.declared.cycles.RunPlan.{RunPlan}
 use Rattle.node_run.specs.Going.{Around}
@@ -31,8 +32,8 @@ pub record DiskCall (D : Type 0) : Type 0 where
   pub result : Result (Unit {0}) GroupFault
   pub ran : Option NodeRun
 
--- A call that does what `run_over_disk` promises (`RunsOrRefuses`): its start is refused, or this
--- is the run of its process, which is over.
+-- A call that does what `run_over_disk` promises, with its cycles as the run of a process
+-- (`cycles_are_a_run`): its start is refused, or this is that run, which is over.
 -- Forbids: the run of another process.
 abbrev pub IsCallWith : {D : Type 0} → StoreKind (LogState D) → Parts → Me → DiskCall D
     → Option NodeRun → Type 0
@@ -46,15 +47,36 @@ IsCallWith kind p me c (Some run) =
       stand = IsOver is_changed;
     })
 
--- Calls over one disk, one after the other. Between them nothing is written: from what a call left,
--- whatever a crash has made of it, no more may be loaded.
+-- What `run_over_disk` promises of its disk (`good`): from a folder of the node comes one.
+abbrev pub KeepsFolderOf : {D : Type 0} → (D → Folder) → Me → DiskCall D → Type 0
+KeepsFolderOf folder_of me c =
+    IsFolderOf me (folder_of c.store.disk) → IsFolderOf me (folder_of c.end.disk)
+
+-- Calls over one disk, one after the other. Between them nothing is written: in what a call left,
+-- whatever a crash has made of it, a restart finds nothing that it could not find there before.
 abbrev pub AreDiskCalls : {D : Type 0} → Type 0 → (D → Folder) → Parts → Me → Folder
     → List (DiskCall D) → Type 0
 AreDiskCalls honest folder_of p me folder [] = Unit {0}
 AreDiskCalls honest folder_of p me folder (c ∷ calls) =
-    LoadsNoMore folder (folder_of c.store.disk)
-    × IsCallWith (disk_kind honest folder_of) p me c c.ran
+    FindsNoMore folder (folder_of c.store.disk)
+    × IsCallWith (disk_kind honest folder_of) p me c c.ran × KeepsFolderOf folder_of me c
     × AreDiskCalls honest folder_of p me (folder_of c.end.disk) calls
+
+-- Whatever a restart of this node finds in the folder, it reads one of these records from it.
+-- Forbids: A file that it cannot read.
+abbrev pub FindsOneOf : Me → Folder → List Record → Type 0
+FindsOneOf me folder records =
+    (left : Option (List ℕ)) → MayFind folder left
+    → (r : Record) × Reads me left r × Contains records r
+
+-- A call that begins over a folder of its node, as `run_over_disk` requires, and leaves one. After
+-- a run a restart reads the record of its process, or either of the two that a failed save leaves.
+pub record FindsItsRecord {D : Type 0} (folder_of : D → Folder) (me : Me) (c : DiskCall D)
+    : Type 0 where
+  pub begins : IsFolderOf me (folder_of c.store.disk)
+  pub leaves : IsFolderOf me (folder_of c.end.disk)
+  pub finds : IfSome c.ran (λ run. FindsOneOf me (folder_of c.end.disk)
+      (record_by run (IsOver false) ∷ record_by run (IsOver true) ∷ []))
 
 -- The runs of the processes of these calls.
 abbrev pub runs_of : {D : Type 0} → List (DiskCall D) → List NodeRun

@@ -1,5 +1,6 @@
 //! Laws of processes over disks.
-ghost use Rattle.std.specs.Prelude.{◌≡◌, ◌≢◌, ℕ, Bool, [], ◌∷◌, ◌++◌, Err, length, List, Option, Result, Some, take};
+ghost use Rattle.std.specs.Prelude.{◌≡◌, ◌≢◌, ℕ, Bool, false, true, [], ◌∷◌, ◌++◌, Err, length, List, Option, Result, Some, take};
+ghost use Rattle.std.specs.List.{AllByRecursion};
 ghost use Rattle.pcode_file.specs.Parts.{Parts};
 ghost use Rattle.paxos_msg.specs.declared.message.Group.{Group};
 ghost use Rattle.paxos_msg.specs.Batches.{Record};
@@ -7,14 +8,15 @@ ghost use Rattle.paxos_msg.specs.Fits.{IsGroup};
 ghost use Rattle.paxos_acceptor.specs.declared.me.Me.{Me};
 ghost use Rattle.paxos_disk.specs.Disks.{Folder};
 ghost use Rattle.paxos_disk.specs.Found.{LoadsOnly, disk_kind};
-ghost use Rattle.paxos_disk.specs.Reads.{LogState};
+ghost use Rattle.paxos_disk.specs.Reads.{IsFolderOf, LogState};
 ghost use Rattle.group_protocol.specs.declared.start.StartRefused.{StartRefused};
 ghost use Rattle.group_wire.specs.Starts.{HasStarted};
 ghost use Rattle.group_udp.specs.declared.fault.GroupFault.{GroupFault};
 ghost use Rattle.node_run.specs.declared.cycles.RunPlan.{RunPlan};
-ghost use Rattle.node_run.specs.Going.{Around};
+ghost use Rattle.node_run.specs.Going.{Around, around};
 ghost use Rattle.node_run.specs.Runs.{RunsNode};
 ghost use Rattle.group_protocol.specs.States.{IsSize};
+ghost use Rattle.group_rules.specs.SmallPrograms.{letter_program};
 ghost use Rattle.group_rules.specs.Claims.{ConsolesAgree, ConsolesGrow, ConsolesHoldOutput, HasNoGap, KeysOnce, LearnedAgree, LearnedChosen, LearnedStays, ConsolesShowReleased, SerialsInOrder};
 ghost use Rattle.group_world.specs.Member.{Member};
 ghost use Rattle.group_world.specs.Processes.{Entry};
@@ -22,11 +24,12 @@ ghost use Rattle.group_disk.specs.Wrong.{MayCampaign, taken_back};
 ghost use Rattle.paxos_msg.specs.Records.{empty_record};
 ghost use Rattle.group_process.specs.Network.{GivenEntry, entries_alone};
 ghost use Rattle.group_process.specs.Runs.{AreRuns, Attempt, ConsolesAreReleased, ConsolesShowRuns, IsOver, NodeRun, Starts};
-ghost use Rattle.group_disk.specs.DiskCalls.{AreCallsAt, AreDiskCalls, DiskCall, HaveStarts, WriteAt, runs_of};
-ghost use Rattle.group_disk.specs.Folders.{AreOverDisk, DiskStart, IsFolderLog, IsNetworkFolderLog, IsOverDisk, LeavesNoMoreThan, start_over, starts_of};
+ghost use Rattle.group_disk.specs.DiskCalls.{AreCallsAt, AreDiskCalls, DiskCall, FindsItsRecord, HaveStarts, WriteAt, runs_of};
+ghost use Rattle.group_disk.specs.Folders.{AreOverDisk, DiskStart, IsFolderLog, IsNetworkFolderLog, IsNew, IsOverDisk, LeavesNoMoreThan, start_over, starts_of};
 ghost use Rattle.group_disk.specs.Headline.{AlwaysLaterOfDisks, AlwaysOfDiskNodes, AlwaysOfDisks, AreSeenAlike, AreUpAsRun, DisksLeaveNodes, HasFirstStarts, HaveMomentOfDisks, IsAfterDisks};
-ghost use Rattle.group_disk.specs.TornStarts.{first_of_three, no_files, torn_group, torn_log, torn_starts};
-ghost use Rattle.group_process.specs.Terminals.{TerminalsAreConsoles, TerminalsShowConsoles, TerminalsShowLastRuns};
+ghost use Rattle.group_disk.specs.Recorded.{no_keyboard, recorded_plan, recorded_traffic, store_over};
+ghost use Rattle.group_disk.specs.TornStarts.{changes_of_one, first_of_three, letter_shown, log_of_one, no_files, record_by_changes, synced_folder, torn_group, torn_log, torn_starts};
+ghost use Rattle.group_process.specs.Terminals.{AreAtTerminal, TerminalsAreConsoles, TerminalsShowConsoles, TerminalsShowLastRuns, terminal_after};
 ghost use Rattle.group_disk.specs.Written.{IsWrittenAt};
 ghost use Rattle.group_disk.specs.Restarts.{AreChosenRuns, AreRestarts, AreSeenSame, HasKeptLog, HaveRuns, IsDiskLog};
 
@@ -38,7 +41,7 @@ use paxos_disk::Disk;
 use paxos_disk::laws::{logs_grow, torn_appends, what_restarts_load};
 use paxos_msg::Group;
 use paxos_msg::grammar::spelling_is_short;
-use pcode_machine::laws::prefixes_are_ordered;
+use pcode_machine::laws::{output_only_grows, prefixes_are_ordered};
 
 /// Starts over a disk are runs over a store that keeps its record, with the same deeds.
 pub fn restarts_are_runs()
@@ -151,11 +154,21 @@ pub fn a_promise_is_taken_back()
 /// the next start of node 1 fails, and was made for all that. The third start loads what it has
 /// left and campaigns, and the append of its promise is torn. The fourth one starts over the log
 /// with the torn end.
+///
+/// If the program is the one that writes the letter A, the first run and the last one show it: at
+/// the terminal before the crashes, and again after them, since they have taken it from there.
 pub fn starts_may_be_torn()
-    ensures starts { (p : Parts) → AreOverDisk p first_of_three no_files (torn_starts p) }
-    ensures logged { (p : Parts)
-        → IsFolderLog p first_of_three.group (λ i. no_files) (torn_group p) (torn_log p) }
+    ensures starts { (p : Parts) → AreOverDisk p first_of_three no_files (torn_starts p false) }
+    ensures logged { (p : Parts) → IsFolderLog p first_of_three.group (λ i. no_files)
+        (torn_group p false) (torn_log p false) }
+    ensures shown_starts { AreOverDisk letter_program first_of_three no_files
+        (torn_starts letter_program true) }
+    ensures shown_log { IsFolderLog letter_program first_of_three.group (λ i. no_files)
+        (torn_group letter_program true) (torn_log letter_program true) }
+    ensures shown { AreAtTerminal (starts_of (torn_starts letter_program true)) (letter_shown 65) }
+    ensures terminal { terminal_after [] (letter_shown 65) ≡ 65 ∷ [] }
 {
+    output_only_grows();
     let group = Group {
         size: 3,
         session: 7,
@@ -166,6 +179,26 @@ pub fn starts_may_be_torn()
     what_is_given_was_sent();
     what_restarts_load(Me { node: 1, group });
     what_restarts_load(Me { node: 2, group });
+}
+
+/// A run of which all is known. Node 1 of three starts over an empty disk, campaigns and shows a
+/// letter. Its wire got the bytes of its Prepare, once for each node, and nothing else; its disk
+/// has the log of one start and a promise; its terminal has the letter. So what is promised of a
+/// run can be met, with each byte that passes and is written.
+pub fn a_run_is_recorded()
+    ensures { RunsNode (disk_kind (Unit {0}) (λ folder. folder)) first_of_three letter_program
+        (store_over no_files None)
+        (store_over (synced_folder log_of_one) (Some (record_by_changes changes_of_one)))
+        recorded_plan (around (Some []) no_keyboard 0)
+        (around (Some recorded_traffic) no_keyboard 0) (Some []) (Some (65 ∷ [])) (Ok tt) }
+{
+    let group = Group {
+        size: 3,
+        session: 7,
+    };
+    output_only_grows();
+    logs_grow();
+    what_restarts_load(Me { node: 1, group });
 }
 
 /// Starts that are none: over another record than a restart finds in the folder, as over the one
@@ -211,10 +244,19 @@ pub fn runs_are_starts<D: Disk>()
 /// terminal, between which only a crash may touch either, are starts over the folder of that disk,
 /// and runs at that terminal. So the premises of the main theorem that speak of the disks and
 /// terminals of processes (`AreOverDisk`, `AreAtTerminal`) hold of calls of the program.
+///
+/// What a call requires of its disk is required of the first call alone, and a new folder meets it:
+/// each call leaves it to the next one (`finds`). After each run a restart finds a record, and it
+/// is that of the process, or one of the two that a failed save leaves.
 pub fn calls_are_starts<D: Disk>()
     ensures starts { (p : Parts) (me : Me) (folder : Folder) (calls : List (DiskCall D))
         → D.honest → AreDiskCalls D.honest D.folder p me folder calls
         → HaveStarts p me folder (runs_of calls) }
+    ensures new { (me : Me) (folder : Folder) → IsNew folder → IsFolderOf me folder }
+    ensures finds { (p : Parts) (me : Me) (folder : Folder) (calls : List (DiskCall D))
+        → D.honest → IsGroup me.group → IsFolderOf me folder
+        → AreDiskCalls D.honest D.folder p me folder calls
+        → AllByRecursion (FindsItsRecord D.folder me) calls }
     ensures terminal { (p : Parts) (me : Me) (folder : Folder) (calls : List (DiskCall D))
         (shown now : List ℕ) → AreDiskCalls D.honest D.folder p me folder calls
         → AreCallsAt shown calls now → WriteAt shown (runs_of calls) now }
@@ -222,7 +264,7 @@ pub fn calls_are_starts<D: Disk>()
 
 /// What a run of a node writes, to a writer that is told to begin at the number of the bytes that
 /// are there, is what it shows at the terminal that this writer is. A start that is refused writes
-/// nothing (`RunsOrRefuses`). So the runs of a node, over one writer, are at one terminal
+/// nothing (`RefusesToStart`). So the runs of a node, over one writer, are at one terminal
 /// (`AreAtTerminal`), which is its console (`disks_headline`).
 pub fn runs_write<S: Store>()
     ensures { (p : Parts) (me : Me) (store end : S) (plan : RunPlan) (from to : Around)

@@ -41,6 +41,7 @@ module _ {S : Type 0} (kind : StoreKind S) (me : Me) where
         bad = ((λ f. absurd f), (λ not. absurd (not fits)));
         spent = ((λ f. absurd f), (λ h. absurd (spare (ap (λ (r : Record). r.starts) same ∙ h.1))));
         unsaved = tt;
+        owner = tt;
         used_up = tt;
         only = λ honest. subst (λ (r : Record). MayLoadOnly kind n.protocol.store (changed r Start)) same
             (only_counted a over.left n.protocol over.answer over.counts over.begins honest);
@@ -77,6 +78,7 @@ module _ {S : Type 0} (kind : StoreKind S) (me : Me) where
         bad = ((λ bad. absurd (good bad)), (λ not. absurd (not fits)));
         spent = ((λ spent. absurd (grind (arith, counts.spent, nat_tests))), (λ h. absurd (spare h.1)));
         unsaved = grind (arith, follows.refused);
+        owner = cc (follows.owner, left_is, loaded_is);
         used_up = grind (arith, follows.used_up);
         only = λ honest. tt;
         same = λ honest other.

@@ -3,7 +3,7 @@ use Rattle.std.specs.Prelude.{◌≡◌, ◌≢◌, ◌⊎◌, ◌↔◌, ◌<�
 use Rattle.paxos_msg.specs.Batches.{Record}
 use Rattle.paxos_acceptor.specs.Opening.{fault_of_load}
 use Rattle.paxos_acceptor.specs.Records.{IsRecord}
-use Rattle.paxos_acceptor.specs.Stores.{FailsAsPlanned, CountsIf, IsOneOf, LoadsFrom, MayLoadNoMore, MayLoadOnly, StoreKind}
+use Rattle.paxos_acceptor.specs.Stores.{FailsAsPlanned, CountsIf, HasSameOwner, IsOneOf, LoadsFrom, MayLoadNoMore, MayLoadOnly, StoreKind}
 use Rattle.paxos_acceptor.specs.declared.me.Me.{Me}
 use Rattle.paxos_acceptor.specs.declared.store.StoreFault.{StoreFault}
 use Rattle.group_protocol.specs.Calls.{node_fault}
@@ -29,7 +29,7 @@ IsStartRefused (Err e) f = e.fault ≡ f
 -- start.
 -- `BadRecord` is refused exactly if the record is out of its ranges, and `StartsSpent` exactly if
 -- one in its ranges has counted 4,294,967,295 starts. Then the store is as the load left it. A save
--- that failed has used up the plan.
+-- that failed has used up the plan. A refusal gives back a store of the same node.
 -- Of an honest store a restart may load the record with the start counted alone, once the node is
 -- there, and after any refusal but `Store` no more than after the load. Whenever a crash comes,
 -- what it might not load after the load is the record with the start counted.
@@ -41,6 +41,7 @@ pub record StartsOnRecord {S : Type 0} (kind : StoreKind S) (me : Me) (kept : Re
   pub spent : IsStartRefused result StartsSpent
       ↔ (IsRecord me.group.size kept × (kept.starts ≡ LAST_START))
   pub unsaved : IfErr result (λ e. (e.fault ≡ BadRecord) ⊎ (e.fault ≡ StartsSpent) → e.store ≡ left)
+  pub owner : IfErr result (λ e. HasSameOwner kind left e.store)
   pub used_up : IfErr result (λ e. e.fault ≡ Store → (kind.state e.store).plan ≡ None)
   pub only : kind.honest
       → IfOk result (λ n. MayLoadOnly kind n.protocol.store (changed kept Start))

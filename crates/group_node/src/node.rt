@@ -3,7 +3,7 @@ ghost use Rattle.std.specs.Prelude.{◌≡◌, ◌+◌, ◌⊎◌, ◌<◌, ◌�
 ghost use Rattle.std.specs.FinMap.{get};
 ghost use Rattle.paxos_msg.specs.Datagrams.{Fits};
 ghost use Rattle.paxos_acceptor.specs.Calls.{FailsOnlyWith, IsAmong};
-ghost use Rattle.paxos_acceptor.specs.Stores.{MayLoadNoMore, MayLoadOnly};
+ghost use Rattle.paxos_acceptor.specs.Stores.{HasSameOwner, IsStoreOf, MayLoadNoMore, MayLoadOnly};
 ghost use Rattle.paxos_learner.specs.Learner.{IsFront};
 ghost use Rattle.paxos_msg.specs.declared.limits.TheConstants.{PLACES};
 ghost use Rattle.group_protocol.specs.declared.limits.TheConstants.{MOST_WAITING, TICK_PACKETS};
@@ -93,12 +93,15 @@ impl<'a, S: Store> Node<'a, S> {
     ///
     /// A refusal gives the store back. An honest one has the record that it had; after `Store` it
     /// may have that with the start counted.
+    ///
+    /// The store is one of the node of `config`, or of none in particular.
     pub fn start(
         alloc: Global,
         program: &'a Program,
         config: Config,
         store: S,
     ) -> Result<Node<'a, S>, StartRefused<S>>
+        requires owned { IsStoreOf S.kind config store }
         ensures once { StartsByLoad S.kind config store result }
         ensures fresh { IfOk result (IsFresh program.now) }
         ensures from { S.kind.honest → StartsHonestly S.kind config store result }
@@ -285,10 +288,12 @@ impl<'a, S: Store> Node<'a, S> {
     }
 
     /// Returns the acceptor's record. An honest store has the same one, unless a save has failed,
-    /// and a restart may load no other of it. All that the node knows is in its ranges.
+    /// and a restart may load no other of it. All that the node knows is in its ranges, and the
+    /// store is its own.
     pub fn record(&self) -> &Record
         ensures same { result.now ≡ self.now.protocol.known.kept }
         ensures ranges { IsInRange self.now.protocol.known }
+        ensures owned { IsStoreOf S.kind self.now.protocol.known.me self.now.protocol.store }
         ensures stored { S.kind.honest → self.now.protocol.is_stopped ≡ false
             → (S.kind.state self.now.protocol.store).stored ≡ self.now.protocol.known.kept }
         ensures loads { S.kind.honest → self.now.protocol.is_stopped ≡ false
@@ -350,6 +355,7 @@ impl<'a, S: Store> Node<'a, S> {
             ≡ (S.kind.state self.old.protocol.store).stored }
         ensures may { S.kind.honest
             → MayLoadNoMore S.kind self.old.protocol.store self.new.protocol.store }
+        ensures owner { HasSameOwner S.kind self.old.protocol.store self.new.protocol.store }
         ensures plan { S.kind.fails_at_will → (S.kind.state self.new.protocol.store).plan ≡ plan }
         ensures faults { (S.kind.state self.new.protocol.store).faults
             ≡ (S.kind.state self.old.protocol.store).faults }

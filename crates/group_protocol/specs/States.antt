@@ -2,7 +2,7 @@
 use Rattle.std.specs.Prelude.{◌≡◌, ℕ, ◌%◌, ◌≤◌, Bool, false, List, Option, option_map}
 use Rattle.paxos_msg.specs.Fits.{IsNode}
 use Rattle.paxos_acceptor.specs.declared.me.Me.{Me}
-use Rattle.paxos_acceptor.specs.Stores.{MayLoadOnly, StoreKind}
+use Rattle.paxos_acceptor.specs.Stores.{IsStoreOf, MayLoadOnly, StoreKind}
 use Rattle.paxos_msg.specs.declared.ballot.Ballot.{Ballot}
 use Rattle.paxos_acceptor.specs.Follows.{AcceptorState}
 use Rattle.paxos_proposer.specs.States.{ProposerState}
@@ -54,10 +54,11 @@ pub record IsConfig (me : Me) : Type 0 where
   pub node : IsNode me.group.size me.node
 
 -- The invariant of a node's part in the protocol.
--- Its size is one of a group's, and all that it knows is in its ranges. Unless a save has failed,
--- an honest store has its record, and a restart may load that alone.
+-- Its size is one of a group's, all that it knows is in its ranges, and its store is its own.
+-- Unless a save has failed, an honest store has its record, and a restart may load that alone.
 pub record IsInStep {S : Type 0} (kind : StoreKind S) (p : Protocol S) : Type 0 where
   pub size : IsSize p.known.me.group.size
   pub ranges : IsInRange p.known
+  pub owned : IsStoreOf kind p.known.me p.store
   pub in_step : kind.honest → p.is_stopped ≡ false → (kind.state p.store).stored ≡ p.known.kept
   pub loads : kind.honest → p.is_stopped ≡ false → MayLoadOnly kind p.store p.known.kept

@@ -4,7 +4,7 @@ ghost use Rattle.std.specs.Prelude.{◌≡◌, ◌⊎◌, ◌+◌, ◌<◌, ◌�
 ghost use Rattle.paxos_msg.specs.declared.limits.TheConstants.{LAST_SERIAL};
 ghost use Rattle.group_protocol.specs.declared.limits.TheConstants.{MOST_WAITING, TICK_PACKETS};
 ghost use Rattle.paxos_acceptor.specs.Calls.{FailsOnlyWith};
-ghost use Rattle.paxos_acceptor.specs.Stores.{MayLoadNoMore, MayLoadOnly};
+ghost use Rattle.paxos_acceptor.specs.Stores.{HasSameOwner, IsStoreOf, MayLoadNoMore, MayLoadOnly};
 ghost use Rattle.group_protocol.specs.Ranges.{IsInRange};
 ghost use Rattle.group_protocol.specs.Known.{on_typed, new_key, next_serial};
 ghost use Rattle.paxos_msg.specs.Datagrams.{Fits};
@@ -183,10 +183,12 @@ impl<S: Store> Protocol<S> {
     }
 
     /// Returns the acceptor's record. An honest store has the same one, unless a save has failed,
-    /// and a restart may load no other of it. All that the node knows is in its ranges.
+    /// and a restart may load no other of it. All that the node knows is in its ranges, and the
+    /// store is its own.
     pub fn record(&self) -> &Record
         ensures same { result.now ≡ self.now.known.kept }
         ensures ranges { IsInRange self.now.known }
+        ensures owned { IsStoreOf S.kind self.now.known.me self.now.store }
         ensures stored { S.kind.honest → self.now.is_stopped ≡ false
             → (S.kind.state self.now.store).stored ≡ self.now.known.kept }
         ensures loads { S.kind.honest → self.now.is_stopped ≡ false
@@ -250,6 +252,7 @@ impl<S: Store> Protocol<S> {
         ensures same { S.kind.honest
             → (S.kind.state self.new.store).stored ≡ (S.kind.state self.old.store).stored }
         ensures may { S.kind.honest → MayLoadNoMore S.kind self.old.store self.new.store }
+        ensures owner { HasSameOwner S.kind self.old.store self.new.store }
         ensures plan { S.kind.fails_at_will → (S.kind.state self.new.store).plan ≡ plan }
         ensures faults { (S.kind.state self.new.store).faults
             ≡ (S.kind.state self.old.store).faults }

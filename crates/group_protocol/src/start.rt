@@ -1,7 +1,7 @@
 //! The start of a node's part in the protocol.
 ghost use Rattle.std.specs.Prelude.{◌≡◌, ◌<◌, [], ◌∷◌, false, IfErr, IfOk};
 ghost use Rattle.paxos_acceptor.specs.Calls.{IsAmong};
-ghost use Rattle.paxos_acceptor.specs.Stores.{MayLoadOnly};
+ghost use Rattle.paxos_acceptor.specs.Stores.{IsStoreOf, MayLoadOnly};
 ghost use Rattle.group_protocol.specs.Known.{begun, on_start};
 ghost use Rattle.group_protocol.specs.Ranges.{IsInRange};
 ghost use Rattle.group_protocol.specs.Starting.{StartsOver};
@@ -28,6 +28,7 @@ impl<S: Store> Protocol<S> {
         requires me { acceptor.me ≡ config.now }
         requires counted { 0 < acceptor.kept.starts }
         requires none { waiting ≡ record { first = 1; bytes = [] } }
+        requires owned { IsStoreOf S.kind config.now acceptor.store }
         requires loads { S.kind.honest → acceptor.is_closed ≡ false
             → MayLoadOnly S.kind acceptor.store acceptor.kept }
         ensures known { result.known ≡ begun config.now acceptor.kept }
@@ -59,8 +60,9 @@ impl<S: Store> Protocol<S> {
     /// serial 1. Over an honest store no start has the number of an earlier one, so that no two of
     /// its keys have one name. A refusal gives the store back, as `Acceptor::new_start` leaves it.
     ///
-    /// `acceptor` is of the node of `config`, and `waiting` is empty, as `Waiting::new` makes it:
-    /// a caller makes that room, and all that its machine needs, before the start is saved.
+    /// `acceptor` and its store are of the node of `config`, and `waiting` is empty, as
+    /// `Waiting::new` makes it: a caller makes that room, and all that its machine needs, before
+    /// the start is saved.
     pub fn start(
         alloc: Global,
         config: &Config,
@@ -68,6 +70,7 @@ impl<S: Store> Protocol<S> {
         waiting: Waiting,
     ) -> Result<Protocol<S>, StartRefused<S>>
         requires me { acceptor.me ≡ config.now }
+        requires owned { IsStoreOf S.kind config.now acceptor.store }
         requires none { waiting ≡ record { first = 1; bytes = [] } }
         ensures over { StartsOver S.kind config.now acceptor result }
         ensures known { IfOk result (λ p. p.known ≡ (on_start config.now acceptor.kept).node) }

@@ -83,9 +83,9 @@ abbrev pub IsCaughtUp : Known → Type 0
 IsCaughtUp n = (n.waiting ≡ []) × (place_after n.kept.votes ≡ front n)
 
 -- Whether the tick of a turn is due at a node that knows this, once it has heard what came. After a
--- rest it is not if a place was learned since the rest began, and the node has caught up: then its
--- Ask would ask for what nobody has. `rested` is the known front at the begin of the rest, if the
--- node has rested.
+-- rest it is not if a place was learned since the rest began, and the node has caught up: then it
+-- knows of nothing that its Ask could bring. `rested` is the known front at the begin of the rest,
+-- if the node has rested.
 -- Allows: a tick for which memory runs out.
 abbrev pub IsTickDue : Option ℕ → Known → Type 0
 IsTickDue None n = Unit {0}

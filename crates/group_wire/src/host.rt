@@ -1,5 +1,6 @@
 //! A node with its outbox.
 ghost use Rattle.std.specs.Prelude.{◌≡◌, ◌+◌, [], ◌∷◌, length, Option, option_map, slice_get, IfNone, OnSome};
+ghost use Rattle.paxos_acceptor.specs.Stores.{IsStoreOf};
 ghost use Rattle.group_node.specs.Deeds.{Campaign};
 ghost use Rattle.group_node.specs.NodeCalls.{running, unreleased_by};
 ghost use Rattle.group_node.specs.Output.{IsReplay};
@@ -59,12 +60,15 @@ impl<'a, S: Store> Host<'a, S> {
     /// Starts the node over the record that one load of `store` returns, as `Node::start` says
     /// (`HasStarted`). A refusal gives the store back, and exactly `Store` counts one more fault.
     /// Fails with `Memory` too if memory runs out for the outbox; then nothing was loaded.
+    ///
+    /// The store is one of the node of `config`, or of none in particular.
     pub fn start(
         alloc: Global,
         program: &'a Program,
         config: Config,
         store: S,
     ) -> Result<Host<'a, S>, StartRefused<S>>
+        requires owned { IsStoreOf S.kind config store }
         ensures starts { HasStarted S.kind config program.now store result }
     {
         let group = config.me().group;

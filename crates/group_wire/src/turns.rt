@@ -219,8 +219,8 @@ impl<'a, S: Store> Host<'a, S> {
     /// `rested` is the known front of the node when it began to rest before this turn, or `None` if
     /// it has not rested. The tick is due unless a place was learned since then, none of the node's
     /// keys waits, and the last place at which it has voted is the one below its known front
-    /// (`IsTickDue`): what such a tick sends would ask for what nobody has. With `None` the tick is
-    /// always due.
+    /// (`IsTickDue`): then the node knows of nothing that such a tick could bring. With `None` the
+    /// tick is always due.
     ///
     /// Fails with `Stopped` exactly if a save had failed before, or with `Store` if one fails now.
     /// The node hears each message of the group that a datagram spells, in order, but for those

@@ -197,12 +197,6 @@ pub gone_unprompted : {S : Type 0} {first : List Deed} {old new : NodeState S} {
 gone_unprompted {first = first} acts looks =
     record { gift = []; prompts = []; given = looks; acts = rw (append-nil first) acts; prompted = prompted_none }
 
--- a turn
-pub gone_turn : {S : Type 0} {old new : NodeState S} {from to : Option Traffic} (steps : ℕ) {keys : KeyboardState} {retries : ℕ}
-    → HasActed old new from to (Run steps ∷ []) → HasGoneOn [] old new (around from keys retries) (around to keys retries) 1
-gone_turn steps {keys} acts =
-    record { gift = []; prompts = Run steps ∷ []; given = gift_none keys; acts = acts; prompted = prompted refl (omega arith) refl }
-
 -- these prompts without the keyboard, up to a refusal
 ended_unprompted : {S : Type 0} {kind : StoreKind S} {first : List Deed} {old new : NodeState S} {from to : Option Traffic}
     {keys left : KeyboardState} {retries : ℕ} {e : GroupFault} → GivesWhatCame keys [] left
@@ -230,16 +224,6 @@ save_ended {gift = gift} {prompts} h given prompted = grind (arith, gift, prompt
 pub is_store : (e : GroupFault) → (e ≡ group.Node Store) ⊎ (e ≢ group.Node Store)
 is_store (group.Node Store) = inl refl
 is_store e = inr (λ is. absurd cc)
-
--- a refusal of a cycle, after others
-pub played_ended : {S : Type 0} {kind : StoreKind S}
-    (laws : GoOn kind) {old mid new : NodeState S} {from via to : Around} {made turns : ℕ} {e : GroupFault}
-    → made < turns → HasGoneOn [] old mid from via made → HasGone {T = Unit {0}} kind [] mid new via to 1 (Err e)
-    → HasGone {T = Unit {0}} kind [] old new from to turns (Err e)
-played_ended laws {made = made} more before h = inl (elim h [
-  | inl k ↦ (made + k.0, omega (arith, more, k.1), ended_then laws before k.2)
-  | inr k ↦ (made + 0, omega (arith, more), ended_then laws before k.2)
-])
 
 -- a refusal that no save caused ends what was done
 pub gone_ended : {S : Type 0} {kind : StoreKind S} {first : List Deed} {old new : NodeState S} {from to : Around} {turns : ℕ}

@@ -4,6 +4,7 @@ mod KeyboardAnswers
 mod Releasing
 mod Writing
 mod Running
+mod CycleDeeds
 mod OverFile
 mod Cycling
 mod WrongCycles

@@ -1,5 +1,5 @@
 -- A run over a disk of which nothing is known is a run over a file.
-use Rattle.std.proofs.Common.{◌⊎◌, ℕ, List, Option, Result, Ok, Err, inl, inr, refl, ap}
+use Rattle.std.proofs.Common.{◌≡◌, ◌⊎◌, ℕ, List, Option, Result, Ok, Err, inl, inr, refl, ap}
 use Rattle.pcode_file.specs.Parts.{Parts}
 use Rattle.paxos_msg.specs.Batches.{Record}
 use Rattle.paxos_acceptor.specs.declared.me.Me.{Me}
@@ -10,12 +10,13 @@ use Rattle.paxos_disk.specs.Found.{disk_kind}
 use Rattle.paxos_disk.specs.Reads.{LogState}
 use Rattle.group_protocol.specs.declared.start.StartRefused.{StartRefused}
 use Rattle.group_node.specs.Starting.{StartsAfter, StartsByLoad}
+use Rattle.group_node.specs.NodeCalls.{running}
 use Rattle.group_node.specs.States.{NodeState}
 use Rattle.group_wire.specs.Starts.{HasStarted, LacksOutbox}
 use Rattle.group_udp.specs.declared.fault.GroupFault.{GroupFault}
 use Rattle.node_run.specs.declared.cycles.RunPlan.{RunPlan}
 use Rattle.node_run.specs.Going.{Around}
-use Rattle.node_run.specs.Runs.{CyclesOrRefuses, RunsNode, RunsOrRefuses}
+use Rattle.node_run.specs.Runs.{CyclesOrRefuses, RunsInCycles, RunsNode, RunsOrRefuses}
 
 module _ {D : Type 0} (folder_of : D → Folder) (me : Me) (program : Parts) where
   -- what is known of the file of a refused start
@@ -35,6 +36,7 @@ module _ {D : Type 0} (folder_of : D → Folder) (me : Me) (program : Parts) whe
     bad = h.bad;
     spent = h.spent;
     unsaved = λ why. ap (λ (s : LogState D). s.filed) (h.unsaved why);
+    owner = h.owner;
     used_up = λ why. refl;
     only = λ honest. absurd honest;
     same = λ honest. absurd honest;
@@ -50,7 +52,7 @@ module _ {D : Type 0} (folder_of : D → Folder) (me : Me) (program : Parts) whe
     answer = h.answer;
     left = h.left.filed;
     loads = h.loads;
-    may = record { may = λ honest. absurd honest; no_more = λ honest. absurd honest };
+    may = record { owner = h.may.owner; may = λ honest. absurd honest; no_more = λ honest. absurd honest };
     starts = starts_after h.answer h.left e h.starts;
   })
 
@@ -102,10 +104,17 @@ module _ {D : Type 0} (folder_of : D → Folder) (me : Me) (program : Parts) whe
     none_waits = h.none_waits;
   }
 
-  pub over_file : {store end : LogState D} {plan : RunPlan} {from to : Around} {before after : Option (List ℕ)}
+  -- a run in cycles is one of a process
+  abbrev AreRun : Type 0
+  AreRun = (me : Me) (program : Parts) (store end : LogState D) (plan : RunPlan) (from to : Around) (before after : Option (List ℕ))
+      (result : Result (Unit {0}) GroupFault)
+      (h : RunsInCycles (disk_kind ⊥ folder_of) me program store end plan from to before after result)
+      → (run : RunsNode (disk_kind ⊥ folder_of) me program store end plan from to before after result) × (run.last ≡ running h.final)
+
+  pub over_file : AreRun → {store end : LogState D} {plan : RunPlan} {from to : Around} {before after : Option (List ℕ)}
       {result : Result (Unit {0}) GroupFault}
       → CyclesOrRefuses (disk_kind ⊥ folder_of) me program store end plan from to before after result
       → RunsOrRefuses file_kind me program store.filed end.filed plan from to before after result
-  over_file {store} (inl (refused, starts, end, passed, written, is)) =
+  over_file are {store} (inl (refused, starts, end, passed, written, is)) =
       inl (filed refused, start_refused store refused starts, ap (λ (s : LogState D). s.filed) end, passed, written, is)
-  over_file (inr (h, cycles)) = inr (node_ran h)
+  over_file are (inr h) = inr (node_ran (are me program _ _ _ _ _ _ _ _ h).0)

@@ -1,14 +1,17 @@
 -- A node from its start on, as a process.
-use Rattle.std.proofs.Common.{◌≡◌, ◌≢◌, ◌∙◌, inl, false, List, Option, Some, None, Ok, refl, ap, subst, append-nil, arith}
+use Rattle.std.proofs.Common.{◌≡◌, ◌≢◌, ◌∙◌, inl, inr, false, List, Option, Some, None, Result, Ok, Err, refl, ap, subst, append-nil, arith}
 use Rattle.pcode_file.specs.Parts.{Parts}
 use Rattle.paxos_msg.specs.Batches.{Record}
 use Rattle.paxos_acceptor.specs.declared.me.Me.{Me}
-use Rattle.paxos_acceptor.specs.Stores.{MayLoadOnly, StoreKind}
+use Rattle.paxos_acceptor.specs.Stores.{IsStoreOf, MayLoadOnly, StoreKind}
+use Rattle.paxos_acceptor.specs.declared.store.StoreFault.{StoreFault}
+use Rattle.group_protocol.specs.declared.start.StartRefused.{StartRefused}
 use Rattle.group_node.specs.States.{NodeState}
 use Rattle.group_node.specs.Deeds.{Deed}
 use Rattle.group_node.specs.NodeCalls.{Running, running}
 use Rattle.group_wire.specs.Doings.{DoesAll, Doing, Fails, HasActed, HasDone}
-use Rattle.group_wire.specs.Starts.{HasStarted}
+use Rattle.group_node.specs.Starting.{StartsAfter}
+use Rattle.group_wire.specs.Starts.{HasStarted, LacksOutbox}
 use Rattle.group_wire.specs.Traffic.{Traffic}
 use Rattle.group_wire.specs.Process.{RunsAsProcess, started}
 
@@ -25,15 +28,33 @@ starts_so : {S : Type 0} (kind : StoreKind S) (me : Me) (program : Parts) (store
     → HasStarted kind me program store (Ok first) → Starts kind me program store first
 starts_so kind me program store first h = grind arith
 
+same_store : {S : Type 0} {store : S} {e : StartRefused S} → LacksOutbox store (Err e) → store ≡ e.store
+same_store lacks = cc
+
+refused_owner : {S : Type 0} (kind : StoreKind S) (me : Me) (left : S) (e : StartRefused S) (answer : Result Record StoreFault)
+    → StartsAfter kind me answer left (Err e) → kind.owner e.store ≡ kind.owner left
+refused_owner kind me left e (Ok kept) h = h.owner
+refused_owner kind me left e (Err f) h = let is : e.store ≡ left = cc in ap kind.owner is
+
+-- a refusal gives back a store of the same node
+pub refused_owned : {S : Type 0} (kind : StoreKind S) (me : Me) (program : Parts) (store : S) (e : StartRefused S)
+    → HasStarted kind me program store (Err e) → IsStoreOf kind me store → IsStoreOf kind me e.store
+refused_owned kind me program store e h owned = elim h.loaded [
+  | inl lacks ↦ subst (IsStoreOf kind me) (same_store lacks) owned
+  | inr by ↦ rw (refused_owner kind me by.left e by.answer by.starts ∙ by.may.owner) owned
+]
+
+-- whose node it is
+pub me_is : {S : Type 0} (kind : StoreKind S) (me : Me) (program : Parts) (store : S) (first : NodeState S)
+    → HasStarted kind me program store (Ok first) → first.protocol.known.me ≡ me
+me_is kind me program store first h = ap (λ (w : Running). w.known.me) (starts_so kind me program store first h).begins
+
 -- what a run did from its start on, where no save failed
 module _ {S : Type 0} (kind : StoreKind S) (me : Me) (program : Parts)
     (store : S) (first new : NodeState S) (from to : Option Traffic) (h : HasStarted kind me program store (Ok first))
     (prompts : List Deed) where
   s : Starts kind me program store first
   s = starts_so kind me program store first h
-
-  me_is : first.protocol.known.me ≡ me
-  me_is = ap (λ (w : Running). w.known.me) s.begins
 
   -- it had not stopped then, so that of its store its record alone is loaded
   only_its_record : {doings : List Doing} → HasDone first new from to doings
@@ -55,7 +76,7 @@ module _ {S : Type 0} (kind : StoreKind S) (me : Me) (program : Parts)
       does = subst (λ (w : Running). DoesAll w.known.me w doings (running new)) s.begins done.does;
       fails = tt;
     };
-    traffic = rw (append-nil doings) (rw me_is at done.traffic);
+    traffic = rw (append-nil doings) (rw (me_is kind me program store first h) at done.traffic);
     leaves = λ honest r may. inl (only_its_record done loads honest r may);
     failed = ((λ f. absurd (none f)), (λ wrong. absurd cc));
     prompted = rw (append-nil doings) are;
@@ -72,9 +93,9 @@ module _ {S : Type 0} (kind : StoreKind S) (me : Me) (program : Parts)
     runs = record {
       spare = s.spare;
       does = subst (λ (w : Running). DoesAll w.known.me w doings (running new)) s.begins failed.does;
-      fails = rw me_is at failed.fails;
+      fails = rw (me_is kind me program store first h) at failed.fails;
     };
-    traffic = rw me_is at failed.traffic;
+    traffic = rw (me_is kind me program store first h) at failed.traffic;
     leaves = failed.leaves;
     failed = ((λ _. refl), (λ _. f));
     prompted = are;

@@ -1,21 +1,26 @@
 -- A run of a node as its cycles: what a cycle is, and the list of them.
-use Rattle.std.specs.Prelude.{◌≡◌, ◌<◌, ◌⊎◌, ℕ, zero, suc, List, [], Option, Some, Result, Ok, Err}
+use Rattle.std.specs.Prelude.{◌≡◌, ◌<◌, ◌⊎◌, ℕ, zero, suc, List, [], ◌∷◌, Option, Some, Result, Ok, Err, IfErr}
 use Rattle.paxos_acceptor.specs.Stores.{StoreKind}
 use Rattle.group_protocol.specs.declared.fault.NodeFault.{NodeFault}
 use Rattle.group_protocol.specs.Known.{front}
-use Rattle.group_node.specs.States.{NodeState}
+use Rattle.group_node.specs.Deeds.{Run}
+use Rattle.group_node.specs.Output.{IsReplay}
+use Rattle.group_node.specs.States.{NodeState, input}
 use Rattle.group_udp.specs.declared.fault.GroupFault.{GroupFault}
 use Rattle.group_udp.specs.declared.fault.GroupFault.TheVariants as group
 use Rattle.group_udp.specs.Prompts.{GivesWhatCame}
+use Rattle.group_udp.specs.Refusals.{IsCampaignRefusal}
 use Rattle.group_wire.specs.declared.answers.Received.{Received}
 use Rattle.group_wire.specs.declared.answers.Turned.{Turned}
+use Rattle.group_wire.specs.declared.limits.TheConstants.{TURN_STEPS}
+use Rattle.group_wire.specs.Doings.{HasActed}
 use Rattle.group_wire.specs.Traffic.{Traffic}
-use Rattle.group_wire.specs.Turns.{HasHeard, HasTurned}
+use Rattle.group_wire.specs.Turns.{HasHeard, HasTurned, SameReleased}
 use Rattle.node_run.specs.declared.answering.Answered.{Answered}
 use Rattle.node_run.specs.declared.cycles.RunPlan.{RunPlan}
 use Rattle.node_run.specs.declared.retries.Retried.{Retried}
 use Rattle.node_run.specs.Answering.{AnswersWhatCame, HasAnsweredKeyboard}
-use Rattle.node_run.specs.Going.{Around, CampaignsIf}
+use Rattle.node_run.specs.Going.{Around, CampaignsIf, FailsAt}
 use Rattle.node_run.specs.Releases.{HasReleased}
 use Rattle.node_run.specs.Retries.{HasRetried}
 
@@ -48,20 +53,23 @@ HearsOnce kind old new from to (Ok x) =
 HearsOnce kind old new from to (Err e) =
     (fault : NodeFault) × HasHeard kind old new from to (Err fault) × (e ≡ group.Node fault)
 
--- All receives of a rest, by its answer.
+-- All receives of a rest, by its answer. They are deeds without a prompt, up to the one at which a
+-- save fails.
 abbrev pub HearsAtRest : {S T : Type 0} → StoreKind S → NodeState S → NodeState S → Option Traffic
     → Option Traffic → Result T GroupFault → Type 0
-HearsAtRest kind old new from to (Ok x) = (times : ℕ) × HearsTimes kind times old new from to
+HearsAtRest kind old new from to (Ok x) =
+    (times : ℕ) × HearsTimes kind times old new from to × HasActed old new from to []
 HearsAtRest {S} {T} kind old new from to (Err e) =
     (times : ℕ) × (mid : NodeState S) × (via : Option Traffic)
-    × HearsTimes kind times old mid from via
-    × HearsOnce {T = T} kind mid new via to (Err e)
+    × HearsTimes kind times old mid from via × HasActed old mid from via []
+    × HearsOnce {T = T} kind mid new via to (Err e) × FailsAt kind mid new via to [] e
 
--- A rest: the node hears what comes. Something may come to its keyboard, and nothing is taken from
--- that.
+-- A rest: the node hears what comes, which are deeds without a prompt. Something may come to its
+-- keyboard, and nothing is taken from that.
 pub record Rests {S : Type 0} (kind : StoreKind S) (a b : RunMoment S) : Type 0 where
   pub times : ℕ
   pub hears : HearsTimes kind times a.node b.node a.around.traffic b.around.traffic
+  pub acts : HasActed a.node b.node a.around.traffic b.around.traffic []
   pub looks : GivesWhatCame a.around.keyboard [] b.around.keyboard
   pub retries : b.around.retries ≡ a.around.retries
   pub unwritten : b.written ≡ a.written
@@ -79,12 +87,15 @@ pub record AnswersKeyboard {S : Type 0} (kind : StoreKind S) (answer : Answered)
   pub did : AnswersWhatCame kind answer a.node b.node a.around b.around
   pub unwritten : b.written ≡ a.written
 
--- A turn: the node hears, ticks if that is due, and runs its machine. The tick is due unless a
--- place was learned since the known front was at `begun`, and the node has caught up.
+-- A turn: the node hears, ticks if that is due, and runs its machine, which is where a replay is
+-- then. The tick is due unless a place was learned since the known front was at `begun`, and the
+-- node has caught up.
 pub record TakesTurn {S : Type 0} (kind : StoreKind S) (begun : ℕ) (turned : Turned)
     (a b : RunMoment S) : Type 0 where
   pub did :
       HasTurned kind (Some begun) a.node b.node a.around.traffic b.around.traffic (Ok turned)
+  pub acts : HasActed a.node b.node a.around.traffic b.around.traffic (Run TURN_STEPS ∷ [])
+  pub replay : IsReplay (input b.node.protocol.known) b.node.progress
   pub untyped : b.around.keyboard ≡ a.around.keyboard
   pub retries : b.around.retries ≡ a.around.retries
   pub unwritten : b.written ≡ a.written
@@ -94,6 +105,7 @@ pub record ReleasesOutput {S : Type 0} (seen : ℕ) (a b : RunMoment S)
     (result : Result (Unit {0}) GroupFault) : Type 0 where
   pub did : HasReleased seen (record { node = a.node; written = a.written })
       (record { node = b.node; written = b.written }) result
+  pub acts : HasActed a.node b.node a.around.traffic b.around.traffic []
   pub alone : b.around ≡ a.around
 
 -- ---- a cycle, and many
@@ -103,7 +115,8 @@ abbrev pub front_at : {S : Type 0} → RunMoment S → ℕ
 front_at a = front a.node.protocol.known
 
 -- A cycle up to its release: a rest, a campaign once more if one is due, the keyboard, and a turn,
--- which ticks unless a place was learned since the cycle began, and the node has caught up.
+-- which ticks unless a place was learned since the cycle began, and the node has caught up. What
+-- was released before stays as it is.
 pub record TurnsOnce {S : Type 0} (kind : StoreKind S) (a b : RunMoment S) : Type 0 where
   pub rested : RunMoment S
   pub tried : RunMoment S
@@ -115,6 +128,7 @@ pub record TurnsOnce {S : Type 0} (kind : StoreKind S) (a b : RunMoment S) : Typ
   pub campaigns : CampaignsAgain kind retried rested tried
   pub answers : AnswersKeyboard kind answer tried answered
   pub turns : TakesTurn kind (front_at a) turned answered b
+  pub stays : SameReleased a.node b.node
 
 -- A cycle: then all output that waits is released, and written from number `seen` on.
 pub record IsCycle {S : Type 0} (kind : StoreKind S) (seen : ℕ) (a b : RunMoment S) : Type 0 where
@@ -137,6 +151,7 @@ pub record EndsAtRest {S : Type 0} (kind : StoreKind S) (a b : RunMoment S) (e :
   pub rests : Rests kind a rested
   pub hears : HearsOnce {T = Unit {0}} kind rested.node b.node rested.around.traffic
       b.around.traffic (Err e)
+  pub fails : FailsAt kind rested.node b.node rested.around.traffic b.around.traffic [] e
   pub untyped : b.around.keyboard ≡ rested.around.keyboard
   pub retries : b.around.retries ≡ rested.around.retries
   pub unwritten : b.written ≡ rested.written
@@ -175,16 +190,17 @@ pub record EndsAtTurn {S : Type 0} (kind : StoreKind S) (a b : RunMoment S) (e :
   pub did : HasTurned kind (Some (front_at a)) answered.node b.node answered.around.traffic
       b.around.traffic (Err fault)
   pub is : e ≡ group.Node fault
+  pub fails : FailsAt kind answered.node b.node answered.around.traffic b.around.traffic [] e
   pub untyped : b.around.keyboard ≡ answered.around.keyboard
   pub retries : b.around.retries ≡ answered.around.retries
   pub unwritten : b.written ≡ answered.written
 
--- A cycle that is refused before its release.
+-- A cycle that is refused before its release. What was released before stays as it is.
 abbrev pub EndsBeforeRelease : {S : Type 0} → StoreKind S → RunMoment S → RunMoment S → GroupFault
     → Type 0
 EndsBeforeRelease kind a b e =
-    EndsAtRest kind a b e
-    ⊎ (EndsAtRetry kind a b e ⊎ (EndsAtKeyboard kind a b e ⊎ EndsAtTurn kind a b e))
+    SameReleased a.node b.node × (EndsAtRest kind a b e
+    ⊎ (EndsAtRetry kind a b e ⊎ (EndsAtKeyboard kind a b e ⊎ EndsAtTurn kind a b e)))
 
 -- A cycle up to its release, by its answer.
 abbrev pub TurnsOrEnds : {S T : Type 0} → StoreKind S → RunMoment S → RunMoment S
@@ -220,6 +236,9 @@ DoesCycles {S} kind seen turns a b (Err e) =
 pub record Begins {S : Type 0} (kind : StoreKind S) (plan : RunPlan) (a b : RunMoment S)
     (result : Result (Unit {0}) GroupFault) : Type 0 where
   pub did : CampaignsIf kind plan.campaigns a.node b.node a.around.traffic b.around.traffic result
+  pub why : IfErr result IsCampaignRefusal
+  pub unmoved : b.node.progress ≡ a.node.progress
+  pub stays : SameReleased a.node b.node
   pub untyped : b.around.keyboard ≡ a.around.keyboard
   pub retries : b.around.retries ≡ a.around.retries
   pub unwritten : b.written ≡ a.written

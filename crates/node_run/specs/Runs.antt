@@ -1,9 +1,9 @@
 -- What a whole run of a node does, what passes over its wire, what is typed at it, and what it
 -- writes.
-use Rattle.std.specs.Prelude.{◌≡◌, ◌≢◌, ◌≤◌, ◌⊎◌, ℕ, true, List, [], ◌++◌, length, Option, Result, Ok, Err, IfErr, IsErrAnd, IsErrOf, OnOk}
+use Rattle.std.specs.Prelude.{◌≡◌, ◌≢◌, ◌≤◌, ◌⊎◌, ℕ, false, true, List, [], ◌++◌, length, Option, Result, Ok, Err, IfErr, IsErrAnd, IsErrOf, OnOk}
 use Rattle.std.specs.Io.KnownBytes.{Appends}
 use Rattle.paxos_acceptor.specs.declared.me.Me.{Me}
-use Rattle.paxos_acceptor.specs.Stores.{StoreKind}
+use Rattle.paxos_acceptor.specs.Stores.{MayLoadOnly, StoreKind}
 use Rattle.pcode_file.specs.Parts.{Parts}
 use Rattle.group_protocol.specs.declared.fault.NodeFault.TheVariants.{SerialSpent, Store}
 use Rattle.group_protocol.specs.declared.start.StartRefused.{StartRefused}
@@ -72,18 +72,23 @@ pub record RunsNode {S : Type 0} (kind : StoreKind S) (me : Me) (program : Parts
   pub writes : WritesReleased plan.seen last (IsErrOf result write_failed) before after
   pub none_waits : OnOk result (unreleased_by last ≡ [])
 
--- The same run as its cycles: from the node that one load of the store gave, up to `last`. It says
--- what the node did in which order: it heard, answered its keyboard, ticked, ran its machine and
--- released its output in each cycle.
+-- A run of a node as its cycles: from the node that one load of the store gave to the one that
+-- leaves the store `end`. It says what the node did in which order: it heard, answered its
+-- keyboard, ticked, ran its machine and released its output in each cycle. In the end its machine
+-- is where a replay is; and unless a save has failed, a restart may load the node's record of an
+-- honest store, and no other. That it is a process then is a law (`cycles_are_a_run`).
 -- Forbids: a cycle without its turn, its release, or its look at the keyboard.
-pub record RunsInCycles {S : Type 0} (kind : StoreKind S) (me : Me) (program : Parts) (store : S)
-    (plan : RunPlan) (from to : Around) (before after : Option (List ℕ)) (last : Running)
+pub record RunsInCycles {S : Type 0} (kind : StoreKind S) (me : Me) (program : Parts)
+    (store end : S) (plan : RunPlan) (from to : Around) (before after : Option (List ℕ))
     (result : Result (Unit {0}) GroupFault) : Type 0 where
   pub start : NodeState S
   pub final : NodeState S
   pub starts : HasStarted kind me program store (Ok start)
   pub run : IsRun kind plan (run_moment start from before) (run_moment final to after) result
-  pub is_last : last ≡ running final
+  pub replay : IsReplay (input final.protocol.known) final.progress
+  pub left : end ≡ final.protocol.store
+  pub loads : kind.honest → final.protocol.is_stopped ≡ false
+      → MayLoadOnly kind end final.protocol.known.kept
 
 -- A start that is refused: nothing passes, nothing is typed, and nothing is written.
 abbrev pub RefusesToStart : {S : Type 0} → StoreKind S → Me → Parts → S → S → Around → Around
@@ -106,5 +111,4 @@ abbrev pub CyclesOrRefuses : {S : Type 0} → StoreKind S → Me → Parts → S
     → Around → Option (List ℕ) → Option (List ℕ) → Result (Unit {0}) GroupFault → Type 0
 CyclesOrRefuses kind me program store end plan from to before after result =
     RefusesToStart kind me program store end from to before after result
-    ⊎ ((run : RunsNode kind me program store end plan from to before after result)
-    × RunsInCycles kind me program store plan from to before after run.last result)
+    ⊎ RunsInCycles kind me program store end plan from to before after result

@@ -1,12 +1,9 @@
 //! The cycles of one node: each is a rest, typing, a turn, and the release of all output.
-ghost use Rattle.std.specs.Prelude.{◌≡◌, ℕ, List, [], false, IfErr, IsErrOf, OnOk, Option};
+ghost use Rattle.std.specs.Prelude.{◌≡◌, ℕ, List, false, IfErr, IsErrOf, OnOk, Option};
 ghost use Rattle.paxos_acceptor.specs.Stores.{CountsIf};
-ghost use Rattle.pcode_file.specs.Parts.{Parts};
-ghost use Rattle.group_node.specs.Output.{no_progress};
 ghost use Rattle.group_wire.specs.Turns.{SameReleased};
 ghost use Rattle.node_run.specs.Cycles.{DoesCycle, DoesCycles, IsRun, TurnsOrEnds, run_moment};
-ghost use Rattle.node_run.specs.Going.{CampaignsIf, HasGone, around_of, planned};
-ghost use Rattle.node_run.specs.Output.{AppendsOutput, NoneWaits, SameProgram};
+ghost use Rattle.node_run.specs.Going.{CampaignsIf, around_of};
 ghost use Rattle.node_run.specs.Runs.{IsEarlyEnd};
 ghost use Rattle.group_udp.specs.Refusals.{IsCampaignRefusal, IsCycleRefusal, IsWrittenCycleRefusal, write_failed};
 
@@ -90,17 +87,12 @@ fn rest_and_turn<H: Clock, T: CountedWire, K: Keyboard, S: Store, E: Write>(
 ) -> Result<bool, GroupFault>
     requires works { host.old.protocol.is_stopped ≡ false }
     ensures works { OnOk result (host.new.protocol.is_stopped ≡ false) }
-    ensures goes { HasGone S.kind [] host.old host.new
-        (around_of T.traffic K.keys endpoints.old)
-        (around_of T.traffic K.keys endpoints.new) 1 result }
-    ensures program { SameProgram host.old host.new }
     ensures stays { SameReleased host.old host.new }
     ensures turns { (written : Option (List ℕ)) → TurnsOrEnds S.kind
         (run_moment host.old (around_of T.traffic K.keys endpoints.old) written)
         (run_moment host.new (around_of T.traffic K.keys endpoints.new) written) result }
     ensures others { IfErr result IsCycleRefusal }
 {
-    deeds_go_on::<S>();
     let begun = host.node().known_front();
     rest_unless_busy(host, endpoints, is_busy)?;
     log.look(host.node().protocol());
@@ -109,6 +101,8 @@ fn rest_and_turn<H: Clock, T: CountedWire, K: Keyboard, S: Store, E: Write>(
     let answered = answer_keyboard(host, endpoints)?;
     note_answered(host, &endpoints.keyboard, answered, log);
     let ran = own_turn(host, &mut endpoints.wire, begun)?;
+    // The machine is where a replay from the start is.
+    host.unreleased();
     log.look(host.node().protocol());
     log.note_program_end(ran.end());
     note_wire(&mut endpoints.wire, log);
@@ -127,13 +121,6 @@ fn cycle<H: Clock, T: CountedWire, K: Keyboard, S: Store, W: ByteWriter, E: Writ
 ) -> Result<bool, GroupFault>
     requires works { host.old.protocol.is_stopped ≡ false }
     ensures works { OnOk result (host.new.protocol.is_stopped ≡ false) }
-    ensures goes { HasGone S.kind [] host.old host.new
-        (around_of T.traffic K.keys endpoints.old)
-        (around_of T.traffic K.keys endpoints.new) 1 result }
-    ensures program { SameProgram host.old host.new }
-    ensures writes { AppendsOutput seen host.old host.new (IsErrOf result write_failed)
-        (W.contents writer.old) (W.contents writer.new) }
-    ensures none_waits { OnOk result (NoneWaits host.new) }
     ensures cycle { DoesCycle S.kind seen
         (run_moment host.old (around_of T.traffic K.keys endpoints.old) (W.contents writer.old))
         (run_moment host.new (around_of T.traffic K.keys endpoints.new) (W.contents writer.new))
@@ -142,18 +129,13 @@ fn cycle<H: Clock, T: CountedWire, K: Keyboard, S: Store, W: ByteWriter, E: Writ
         (W.write_faults writer.new) }
     ensures others { IfErr result IsWrittenCycleRefusal }
 {
-    deeds_go_on::<S>();
     let more = rest_and_turn(host, endpoints, is_busy, log)?;
-    // The machine is where a replay from the start is.
-    host.unreleased();
     release_all(host, seen, &mut endpoints.wire, writer)?;
     Ok(more)
 }
 
 /// Makes as many cycles as the plan has turns, up to the first refusal: a failed save, spent
-/// serials, or a failed write. Over all cycles the bytes that were released are written, each once
-/// and in order, but for those that were seen. If a write fails, the last one is lost. At `Ok` no
-/// output waits, if none waited before.
+/// serials, or a failed write.
 fn play<H: Clock, T: CountedWire, K: Keyboard, S: Store, W: ByteWriter, E: Write>(
     host: &mut Host<'_, S>,
     plan: RunPlan,
@@ -162,13 +144,6 @@ fn play<H: Clock, T: CountedWire, K: Keyboard, S: Store, W: ByteWriter, E: Write
     log: &mut Log<'_, H, E>,
 ) -> Result<(), GroupFault>
     requires works { host.old.protocol.is_stopped ≡ false }
-    ensures goes { HasGone S.kind [] host.old host.new
-        (around_of T.traffic K.keys endpoints.old)
-        (around_of T.traffic K.keys endpoints.new) plan.turns result }
-    ensures program { SameProgram host.old host.new }
-    ensures writes { AppendsOutput plan.seen host.old host.new (IsErrOf result write_failed)
-        (W.contents writer.old) (W.contents writer.new) }
-    ensures none_waits { NoneWaits host.old → OnOk result (NoneWaits host.new) }
     ensures cycles { DoesCycles S.kind plan.seen plan.turns
         (run_moment host.old (around_of T.traffic K.keys endpoints.old) (W.contents writer.old))
         (run_moment host.new (around_of T.traffic K.keys endpoints.new) (W.contents writer.new))
@@ -177,7 +152,6 @@ fn play<H: Clock, T: CountedWire, K: Keyboard, S: Store, W: ByteWriter, E: Write
         (W.write_faults writer.new) }
     ensures others { IfErr result IsWrittenCycleRefusal }
 {
-    deeds_go_on::<S>();
     let mut is_busy = true;
     for _ in 0..plan.turns {
         is_busy = cycle(host, plan.seen, endpoints, is_busy, writer, log)?;
@@ -216,14 +190,6 @@ pub fn campaign_and_play<H: Clock, T: CountedWire, K: Keyboard, S: Store, W: Byt
     log: &mut Log<'_, H, E>,
 ) -> Result<(), GroupFault>
     requires works { host.old.protocol.is_stopped ≡ false }
-    ensures goes { HasGone S.kind (planned plan.campaigns) host.old host.new
-        (around_of T.traffic K.keys endpoints.old)
-        (around_of T.traffic K.keys endpoints.new) plan.turns result }
-    ensures program { SameProgram host.old host.new }
-    ensures writes { AppendsOutput plan.seen host.old host.new (IsErrOf result write_failed)
-        (W.contents writer.old) (W.contents writer.new) }
-    ensures none_waits { (p : Parts) → host.old.progress ≡ no_progress p
-        → OnOk result (NoneWaits host.new) }
     ensures run { IsRun S.kind plan
         (run_moment host.old (around_of T.traffic K.keys endpoints.old) (W.contents writer.old))
         (run_moment host.new (around_of T.traffic K.keys endpoints.new) (W.contents writer.new))
@@ -232,7 +198,6 @@ pub fn campaign_and_play<H: Clock, T: CountedWire, K: Keyboard, S: Store, W: Byt
         (W.write_faults writer.new) }
     ensures others { IfErr result (IsEarlyEnd plan) }
 {
-    deeds_go_on::<S>();
     campaign_if(host, &mut endpoints.wire, plan.campaigns)?;
     play(host, plan, endpoints, writer, log)
 }

@@ -1,17 +1,24 @@
-//! What holds of a node's output over its starts, and what is no cycle of a run, as contracts of
-//! functions that do nothing.
-ghost use Rattle.std.specs.Prelude.{◌≡◌, ◌+◌, ◌^◌, ◌<◌, ◌⊎◌, ◌++◌, ◌∷◌, List, Ok, length, max, ℕ};
+//! What holds of a node's output over its starts, that a run in cycles is a process, and what is no
+//! cycle of a run, as contracts of functions that do nothing.
+ghost use Rattle.std.specs.Prelude.{◌≡◌, ◌+◌, ◌^◌, ◌<◌, ◌⊎◌, ◌++◌, ◌∷◌, List, Ok, Option, Result, length, max, ℕ};
+ghost use Rattle.pcode_file.specs.Parts.{Parts};
 ghost use Rattle.pcode_machine.specs.Runs.{AreComparable, IsOutput};
+ghost use Rattle.paxos_acceptor.specs.declared.me.Me.{Me};
 ghost use Rattle.group_node.specs.Output.{IsReplay, Progress};
 ghost use Rattle.group_node.specs.NodeCalls.{running, unreleased_by};
 ghost use Rattle.group_protocol.specs.declared.limits.TheConstants.{MOST_WAITING};
 ghost use Rattle.group_wire.specs.declared.answers.Turned.{Turned};
+ghost use Rattle.group_udp.specs.declared.fault.GroupFault.{GroupFault};
 ghost use Rattle.node_run.specs.declared.answering.Answered.{Answered};
+ghost use Rattle.node_run.specs.declared.cycles.RunPlan.{RunPlan};
+ghost use Rattle.node_run.specs.Going.{Around};
+ghost use Rattle.node_run.specs.Runs.{RunsInCycles, RunsNode};
 ghost use Rattle.node_run.specs.Cycles.{AnswersKeyboard, ReleasesOutput, RunMoment, TakesTurn};
 ghost use Rattle.node_run.specs.Output.{AreFirst, released_from};
 ghost use Rattle.node_run.specs.Wrong.{closed_with};
 
 use group_node::Ran;
+use group_wire::laws::deeds_go_on;
 use paxos_acceptor::Store;
 use pcode_machine::laws::{output_only_grows, prefixes_are_ordered};
 
@@ -37,6 +44,18 @@ pub fn consoles_go_on()
 {
     output_only_grows();
     prefixes_are_ordered();
+}
+
+/// A run that is known as its cycles is the run of a process: of the deeds that its cycles are,
+/// over the record that one load of its store gave, with the output that its releases have written.
+pub fn cycles_are_a_run<S: Store>()
+    ensures { (me : Me) (program : Parts) (store end : S) (plan : RunPlan) (from to : Around)
+        (before after : Option (List ℕ)) (result : Result (Unit {0}) GroupFault)
+        (h : RunsInCycles S.kind me program store end plan from to before after result)
+        → (run : RunsNode S.kind me program store end plan from to before after result)
+        × (run.last ≡ running h.final) }
+{
+    deeds_go_on::<S>();
 }
 
 /// What is no part of a cycle. A keyboard that has bytes, at a node with room for one, or a request

@@ -96,8 +96,6 @@ fn rest<T: RestingWire, K: Keyboard, S: Store>(
 ) -> Result<(), GroupFault>
     requires works { host.old.protocol.is_stopped ≡ false }
     ensures works { OnOk result (host.new.protocol.is_stopped ≡ false) }
-    ensures rests { HasRested S.kind host.old host.new (T.traffic endpoints.old.wire)
-        (T.traffic endpoints.new.wire) result }
     ensures hears { HearsAtRest S.kind host.old host.new (T.traffic endpoints.old.wire)
         (T.traffic endpoints.new.wire) result }
     ensures looks { GivesWhatCame (K.keys endpoints.old.keyboard) []
@@ -129,8 +127,6 @@ pub fn rest_unless_busy<T: RestingWire, K: Keyboard, S: Store>(
     ensures works { OnOk result (host.new.protocol.is_stopped ≡ false) }
     ensures busy { is_busy ≡ true → (result ≡ Ok tt) × (host.new ≡ host.old)
         × (endpoints.new ≡ endpoints.old) }
-    ensures rests { HasRested S.kind host.old host.new (T.traffic endpoints.old.wire)
-        (T.traffic endpoints.new.wire) result }
     ensures hears { HearsAtRest S.kind host.old host.new (T.traffic endpoints.old.wire)
         (T.traffic endpoints.new.wire) result }
     ensures looks { GivesWhatCame (K.keys endpoints.old.keyboard) []

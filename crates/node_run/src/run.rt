@@ -1,10 +1,9 @@
 //! A whole run of one node: over any store, wire and keyboard, over any disk, and over the files
 //! and sockets of the system.
-ghost use Rattle.std.specs.Prelude.{◌≡◌, ℕ, [], IfErr, IsErrOf, List, None, Option, Some};
-ghost use Rattle.paxos_acceptor.specs.Stores.{CountsIf};
-ghost use Rattle.paxos_disk.specs.Disks.{MayFind};
+ghost use Rattle.std.specs.Prelude.{◌≡◌, [], IfErr, IsErrOf, None, Some};
+ghost use Rattle.paxos_acceptor.specs.Stores.{CountsIf, IsStoreOf};
 ghost use Rattle.paxos_disk.specs.Found.{disk_kind};
-ghost use Rattle.paxos_disk.specs.Reads.{IsGood};
+ghost use Rattle.paxos_disk.specs.Reads.{IsFolderOf};
 ghost use Rattle.node_run.specs.Ends.{RunsOpened, RunsOverFile, RunsWith, keyboard_at_first};
 ghost use Rattle.node_run.specs.Going.{around_of};
 ghost use Rattle.group_udp.specs.Refusals.{IsRunRefusal, write_failed};
@@ -12,11 +11,13 @@ ghost use Rattle.node_run.specs.Runs.{CyclesOrRefuses};
 
 use crate::cycles::{RunPlan, campaign_and_play};
 use crate::endpoints::{Endpoints, open_keyboard, open_wire};
+use crate::laws::cycles_are_a_run;
 use crate::node::NodePlan;
 use crate::text::Text;
 use group_log::Log;
 use group_node::{Config, NodeFault, StartRefused};
 use group_udp::{CountedWire, GroupFault, Keyboard, UdpWire, Watch};
+use group_wire::laws::deeds_go_on;
 use group_wire::{Host, Told, Wire};
 use machine_run::ByteWriter;
 use paxos_acceptor::Store;
@@ -53,8 +54,8 @@ fn tell_end<T: Wire>(wire: &mut T, done: Result<(), GroupFault>) -> Result<(), G
 
 /// Runs one node over a store, a wire and a keyboard, as `plan` says (`CyclesOrRefuses`). It starts
 /// over the record that one load of the store gives, campaigns if it is to, and makes as many
-/// cycles as there are turns. It is a process of its group: exactly what its deeds send and receive
-/// passes over the wire.
+/// cycles as there are turns. It is a process of its group (`laws::cycles_are_a_run`): exactly what
+/// its deeds send and receive passes over the wire.
 ///
 /// What is typed is what the keyboard gave, each byte once and in order. `writer` gets each byte
 /// that the node has released, from number `seen` on, once and in order, but for one that a failed
@@ -64,9 +65,10 @@ fn tell_end<T: Wire>(wire: &mut T, done: Result<(), GroupFault>) -> Result<(), G
 /// Else it ends at the first failed save or write, if the plan's campaign is refused, or where a
 /// byte is typed and the serials are spent.
 ///
-/// The store is given back. The record that an honest one loaded is one that a restart might have
-/// loaded before, and in the end a restart may load the record of the process alone, or, if its
-/// save failed, that or the changed one.
+/// The store, which is one of the node of `config` or of none in particular, is given back as such.
+/// The record that an honest one loaded is one that a restart might have loaded before, and in the
+/// end a restart may load the record of the process alone, or, if its save failed, that or the
+/// changed one.
 pub fn run_node<H: Clock, T: CountedWire, K: Keyboard, S: Store + Drop, W: ByteWriter, E: Write>(
     alloc: Global,
     program: &Program,
@@ -77,6 +79,8 @@ pub fn run_node<H: Clock, T: CountedWire, K: Keyboard, S: Store + Drop, W: ByteW
     writer: &mut W,
     log: &mut Log<'_, H, E>,
 ) -> NodeEnd<S>
+    requires owned { IsStoreOf S.kind config store }
+    ensures owned { IsStoreOf S.kind config result.store }
     ensures ends { CyclesOrRefuses S.kind config program.now store result.store plan
         (around_of T.traffic K.keys endpoints.old)
         (around_of T.traffic K.keys endpoints.new)
@@ -85,6 +89,7 @@ pub fn run_node<H: Clock, T: CountedWire, K: Keyboard, S: Store + Drop, W: ByteW
         (W.write_faults writer.new) }
     ensures others { IfErr result.done IsRunRefusal }
 {
+    deeds_go_on::<S>();
     let group = config.me().group;
     let mut host = match Host::start(alloc, program, config, store) {
         Ok(host) => host,
@@ -98,7 +103,7 @@ pub fn run_node<H: Clock, T: CountedWire, K: Keyboard, S: Store + Drop, W: ByteW
     let played = campaign_and_play(&mut host, plan, endpoints, writer, log);
     // The machine is where a replay from the start is.
     host.unreleased();
-    // It says what a restart may load of the store.
+    // It says what a restart may load of the store, and whose that is.
     host.node().record();
     let done = tell_end(&mut endpoints.wire, played);
     let store = host.into_store();
@@ -106,7 +111,7 @@ pub fn run_node<H: Clock, T: CountedWire, K: Keyboard, S: Store + Drop, W: ByteW
 }
 
 /// Runs one node over a disk, as `run_node` says. Whatever a restart finds on an honest disk has to
-/// be a record of the node, or no file.
+/// be a record of the node, or no file, and so it is again in the end.
 ///
 /// On an honest disk the process is over a record that a restart might have found there before
 /// (`MayLoad`), and after it a restart finds the record of the process alone, or, if its save
@@ -128,8 +133,8 @@ pub fn run_over_disk<
     writer: &mut W,
     log: &mut Log<'_, H, E>,
 ) -> NodeEnd<LogStore<D>>
-    requires good { D.honest → (left : Option (List ℕ)) → MayFind (D.folder disk) left
-        → IsGood config left }
+    requires good { D.honest → IsFolderOf config (D.folder disk) }
+    ensures good { D.honest → IsFolderOf config (D.folder result.store.disk) }
     ensures ends { CyclesOrRefuses (disk_kind D.honest D.folder) config program.now
         (record { disk = disk; filed = record { me = config; found = None; faults = 0 } })
         result.store plan (around_of T.traffic K.keys endpoints.old)
@@ -140,7 +145,10 @@ pub fn run_over_disk<
     ensures others { IfErr result.done IsRunRefusal }
 {
     let store = LogStore::new(alloc, disk, config.me());
-    run_node(alloc, program, config, store, plan, endpoints, writer, log)
+    let end = run_node(alloc, program, config, store, plan, endpoints, writer, log);
+    // It says what a restart finds there.
+    end.store.disk();
+    end
 }
 
 /// Runs one node over the record in the file that the plan names.
@@ -163,6 +171,7 @@ fn run_over_file<
         (K.keys endpoints.old.keyboard) (K.keys endpoints.new.keyboard)
         (W.contents writer.old) (W.contents writer.new) result }
 {
+    cycles_are_a_run::<LogStore<FileDisk<H>>>();
     let disk = FileDisk::new(*rt, plan.record)?;
     let end = run_over_disk(
         rt.alloc(),

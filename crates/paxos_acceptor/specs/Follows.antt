@@ -5,7 +5,7 @@ use Rattle.paxos_msg.specs.declared.limits.TheConstants.{LAST_START}
 use Rattle.paxos_msg.specs.declared.record.Change.TheVariants.{Start}
 use Rattle.paxos_acceptor.specs.Answers.{Answer, after}
 use Rattle.paxos_acceptor.specs.Calls.{Mut}
-use Rattle.paxos_acceptor.specs.Stores.{StoreKind, FailsAsPlanned, CountsIf, IsOneOf, MayLoadNoMore, MayLoadOnly}
+use Rattle.paxos_acceptor.specs.Stores.{HasSameOwner, StoreKind, FailsAsPlanned, CountsIf, IsOneOf, MayLoadNoMore, MayLoadOnly}
 use Rattle.paxos_acceptor.specs.declared.fault.AcceptorFault.{AcceptorFault}
 use Rattle.paxos_acceptor.specs.declared.fault.AcceptorFault.TheVariants.{Store, Closed, StartsSpent}
 use Rattle.paxos_acceptor.specs.declared.me.Me.{Me}
@@ -31,8 +31,10 @@ pub record IsAcceptorInStep {S : Type 0} (kind : StoreKind S) (a : AcceptorState
 -- Forbids: An answer before its save.
 pub record Follows {S T : Type 0} (kind : StoreKind S) (change : Option Change)
     (old new : AcceptorState S) (result : Result T AcceptorFault) : Type 0 where
-  -- Its node stays. `Ok` makes the change in its record; an error leaves the record as it was.
+  -- Its node stays, and whose record the store keeps. `Ok` makes the change in the acceptor's
+  -- record; an error leaves that as it was.
   pub me : new.me ≡ old.me
+  pub owner : HasSameOwner kind old.store new.store
   pub ok : OnOk result (new.kept ≡ after old.kept change)
   pub err : OnErr result (new.kept ≡ old.kept)
   -- A call is `Closed` exactly if the acceptor was closed before. `Store` closes it, and no other

@@ -3,7 +3,7 @@ use Rattle.std.specs.Prelude.{◌≡◌, ◌↔◌, ◌⊎◌, Bool, true, None,
 use Rattle.paxos_msg.specs.Batches.{Change, Record}
 use Rattle.paxos_msg.specs.Records.{changed}
 use Rattle.paxos_acceptor.specs.Calls.{Mut}
-use Rattle.paxos_acceptor.specs.Stores.{StoreKind, StoreState, FailsAsPlanned, CountsIf, IsOneOf, MayLoadNoMore, MayLoadOnly, new_state, old_state}
+use Rattle.paxos_acceptor.specs.Stores.{HasSameOwner, StoreKind, StoreState, FailsAsPlanned, CountsIf, IsOneOf, MayLoadNoMore, MayLoadOnly, new_state, old_state}
 use Rattle.paxos_acceptor.specs.declared.fault.AcceptorFault.{AcceptorFault}
 use Rattle.paxos_acceptor.specs.declared.fault.AcceptorFault.TheVariants.{Memory, Store}
 
@@ -24,11 +24,13 @@ pub record SavesRecord {S T : Type 0} (kind : StoreKind S) (next : Record) (old 
   pub closed : (is_closed ≡ true) ↔ IsErrOf result Store
   pub others : OnErr result ((result ≡ Err Memory) ⊎ (result ≡ Err Store))
 
--- What a restart may load of the stores before and after a save of the record `next`. At Ok it may
+-- What a restart may load of the stores before and after a save of the record `next`, which are of
+-- the same node. At Ok it may
 -- load `next` alone. If memory runs out it may load no more than before. Whatever the answer, what
 -- it might not load before is `next`.
 pub record LeavesRecords {S T : Type 0} (kind : StoreKind S) (next : Record) (old new : S)
     (result : Result T AcceptorFault) : Type 0 where
+  pub owner : HasSameOwner kind old new
   pub only : kind.honest → OnOk result (MayLoadOnly kind new next)
   pub memory : kind.honest → IsErrOf result Memory → MayLoadNoMore kind old new
   pub no_more : kind.honest → (q : Record) → kind.may_load new q

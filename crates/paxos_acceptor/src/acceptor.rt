@@ -6,7 +6,7 @@ ghost use Rattle.paxos_acceptor.specs.Calls.{FailsOnlyWith, IsAmong};
 ghost use Rattle.paxos_acceptor.specs.Follows.{Answers, CountsStart};
 ghost use Rattle.paxos_acceptor.specs.Opening.{IsOpened, OpensByPlan, OpensFrom, OpensOnce, fault_of_load};
 ghost use Rattle.paxos_acceptor.specs.Records.{IsRecord};
-ghost use Rattle.paxos_acceptor.specs.Stores.{MayLoadNoMore};
+ghost use Rattle.paxos_acceptor.specs.Stores.{HasSameOwner, MayLoadNoMore};
 
 use crate::answers::{accepted, greater_promise, is_promised, part_from, value_under};
 use crate::fault::AcceptorFault;
@@ -281,6 +281,7 @@ impl<S: Store> Acceptor<S> {
         ensures same { S.kind.honest
             → (S.kind.state self.new.store).stored ≡ (S.kind.state self.old.store).stored }
         ensures may { S.kind.honest → MayLoadNoMore S.kind self.old.store self.new.store }
+        ensures owner { HasSameOwner S.kind self.old.store self.new.store }
         ensures plan { S.kind.fails_at_will → (S.kind.state self.new.store).plan ≡ plan }
         ensures faults { (S.kind.state self.new.store).faults
             ≡ (S.kind.state self.old.store).faults }

@@ -4,7 +4,7 @@ ghost use Rattle.std.specs.Prelude.{◌≡◌, ◌<◌};
 ghost use Rattle.paxos_msg.specs.declared.record.Change.TheVariants.{Start};
 ghost use Rattle.paxos_msg.specs.Messages.{IsAscending};
 ghost use Rattle.paxos_acceptor.specs.declared.store.StoreFault.TheVariants.{Memory};
-ghost use Rattle.paxos_acceptor.specs.Stores.{Loaded, LoadsFrom, MayLoadNoMore, Saved, SavesTo};
+ghost use Rattle.paxos_acceptor.specs.Stores.{HasSameOwner, Loaded, LoadsFrom, MayLoadNoMore, Saved, SavesTo};
 ghost use Rattle.paxos_msg.specs.declared.limits.TheConstants.{LAST_START};
 
 use paxos_msg::{Change, Record};
@@ -31,7 +31,8 @@ impl From<AllocError> for StoreFault {
 }
 
 /// A keeper of a record, over restarts too. Contracts know the record of an honest store. One that
-/// fails at will is for tests: its device fails exactly as its plan says.
+/// fails at will is for tests: its device fails exactly as its plan says. Whose record it is stays
+/// over all calls.
 pub trait Store {
     ghost use Rattle.paxos_acceptor.specs.Stores.{StoreKind};
 
@@ -73,6 +74,7 @@ pub trait Store {
     fn fail_next(&mut self, plan: Option<bool>)
         ensures same { kind.honest → (kind.state self.new).stored ≡ (kind.state self.old).stored }
         ensures may { kind.honest → MayLoadNoMore kind self.old self.new }
+        ensures owner { HasSameOwner kind self.old self.new }
         ensures plan { kind.fails_at_will → (kind.state self.new).plan ≡ plan }
         ensures faults { (kind.state self.new).faults ≡ (kind.state self.old).faults };
 }

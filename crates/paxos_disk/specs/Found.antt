@@ -1,5 +1,5 @@
 -- The records that a restart may load from a disk, apart from their bytes.
-use Rattle.std.specs.Prelude.{◌≡◌, ◌⊎◌, ℕ, List, Contains, Option, None}
+use Rattle.std.specs.Prelude.{◌≡◌, ◌⊎◌, ℕ, List, Contains, Option, Some, None}
 use Rattle.paxos_msg.specs.Batches.{Record}
 use Rattle.paxos_msg.specs.Fits.{IsGroup}
 use Rattle.paxos_acceptor.specs.declared.me.Me.{Me}
@@ -31,8 +31,9 @@ LoadsNoMore old new = (r : Record) → MayLoad new r → MayLoad old r
 abbrev pub LoadsNoMoreBut : Folder → Record → Folder → Type 0
 LoadsNoMoreBut old next new = (r : Record) → MayLoad new r → MayLoad old r ⊎ (r ≡ next)
 
--- The kind of the stores on disks, which are honest where their disk is. Such a store has the
--- record of what is seen on its disk, and a restart may load what it may load from the disk.
+-- The kind of the stores on disks, each of which is made for one node, and which are honest where
+-- their disk is. Such a store has the record of what is seen on its disk, and a restart may load
+-- what it may load from the disk.
 abbrev pub disk_kind : {D : Type 0} → Type 0 → (D → Folder) → StoreKind (LogState D)
 disk_kind honest folder_of = record {
   honest = honest;
@@ -40,4 +41,5 @@ disk_kind honest folder_of = record {
   state = λ s. record { stored = stored_in folder_of s; plan = None; faults = s.filed.faults };
   loads = λ old answer new. Finds old.filed new.filed answer;
   may_load = λ s r. MayLoad (folder_of s.disk) r;
+  owner = λ s. Some s.filed.me;
 }

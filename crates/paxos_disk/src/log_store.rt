@@ -3,11 +3,11 @@ ghost use Rattle.base.specs.Faults.{HasRisen};
 ghost use Rattle.std.specs.Prelude.{◌≡◌, ℕ, List, Option, None, IfOk, IsSomeAnd, OnOk, IsErrOf};
 ghost use Rattle.paxos_msg.specs.Batches.{Record as Kept};
 ghost use Rattle.paxos_msg.specs.Records.{changed};
-ghost use Rattle.paxos_disk.specs.Disks.{IsSyncedFrom, MayFind, Remains};
+ghost use Rattle.paxos_disk.specs.Disks.{IsSyncedFrom, Remains};
 ghost use Rattle.paxos_disk.specs.Entries.{IsEntry};
 ghost use Rattle.paxos_disk.specs.Files.{Finds, Notes};
 ghost use Rattle.paxos_disk.specs.Found.{LoadsNoMore, LoadsNoMoreBut, MayLoad, disk_kind};
-ghost use Rattle.paxos_disk.specs.Reads.{IsGood, Reads, Restarts, record_in, stored_in};
+ghost use Rattle.paxos_disk.specs.Reads.{IsFolderOf, Reads, Restarts, record_in, stored_in};
 ghost use Rattle.paxos_acceptor.specs.Stores.{CountsIf, IsOneOf};
 
 use crate::codec::record_is_spelling;
@@ -104,8 +104,7 @@ impl<D: Disk> LogStore<D> {
     ///
     /// Whatever a restart finds on an honest disk has to be a record of `me`, or no file.
     pub fn new(alloc: Global, disk: D, me: Me) -> LogStore<D>
-        requires { D.honest → (left : Option (List ℕ)) → MayFind (D.folder disk) left
-            → IsGood me left }
+        requires { D.honest → IsFolderOf me (D.folder disk) }
         ensures { result ≡ record {
           disk = disk;
           filed = record { me = me; found = None; faults = 0 };
@@ -121,9 +120,11 @@ impl<D: Disk> LogStore<D> {
         }
     }
 
-    /// Returns the disk.
+    /// Returns the disk. Whatever a restart finds on an honest one is a record of the node, or no
+    /// file.
     pub fn disk(&self) -> &D
-        ensures { result.now ≡ self.now.disk }
+        ensures same { result.now ≡ self.now.disk }
+        ensures good { D.honest → IsFolderOf self.now.filed.me (D.folder self.now.disk) }
     {
         &self.disk
     }
@@ -132,8 +133,7 @@ impl<D: Disk> LogStore<D> {
     /// file.
     pub fn into_disk(self) -> D
         ensures same { result ≡ self.disk }
-        ensures good { D.honest → (left : Option (List ℕ)) → MayFind (D.folder result) left
-            → IsGood self.filed.me left }
+        ensures good { D.honest → IsFolderOf self.filed.me (D.folder result) }
     {
         let LogStore {
             disk,

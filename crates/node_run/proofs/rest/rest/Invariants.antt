@@ -1,17 +1,15 @@
-use Rattle.std.proofs.Common.{◌≡◌, ℕ, [], false}
+use Rattle.std.proofs.Common.{◌≡◌, [], false}
 use Rattle.group_udp.specs.Prompts.{GivesWhatCame}
-use Rattle.node_run.specs.Cycles.{HearsTimes}
-use Rattle.group_wire.specs.Doings.{HasActed}
 use Rattle.group_wire.specs.Turns.{SameReleased}
+use Rattle.node_run.proofs.Cycling.{HasHeardSome}
 use Rattle.node_run.proofs.rest.rest.Given as goal
 
 -- so far there were receives alone, nothing else has passed over the wire, nothing was taken from the keyboard, and no save has
 -- failed
 abbrev pub invariant-loop : goal.invariant-loop
 invariant-loop g l = record {
-  acts : HasActed l.initial.host l.host (g.T.Wire.traffic l.fn.endpoints.wire) (g.T.Wire.traffic l.endpoints.wire) [];
   works : l.host.protocol.is_stopped ≡ false;
-  hears : (times : ℕ) × HearsTimes g.S.Store.kind times l.initial.host l.host (g.T.Wire.traffic l.fn.endpoints.wire)
+  hears : HasHeardSome g.S.Store.kind l.initial.host l.host (g.T.Wire.traffic l.fn.endpoints.wire)
       (g.T.Wire.traffic l.endpoints.wire);
   looks : GivesWhatCame (g.K.Keyboard.keys l.fn.endpoints.keyboard) [] (g.K.Keyboard.keys l.endpoints.keyboard);
   retries : l.endpoints.retries ≡ l.fn.endpoints.retries;

@@ -1,5 +1,6 @@
 use Rattle.std.proofs.Common.{inl, inr, refl, rules}
-use Rattle.node_run.proofs.Running.{cycles_by}
+use Rattle.node_run.proofs.Running.{stays_own}
+use Rattle.node_run.proofs.Starting.{refused_owned}
 use Rattle.node_run.proofs.run.run_node.Goals as goal
 
 pub returns-in-Err-clause-ends : goal.returns-in-Err-clause-ends
@@ -10,9 +11,23 @@ returns-in-Err-clause-ends g c =
 pub returns-clause-ends : goal.returns-clause-ends
 returns-clause-ends g c =
     rw (c.tell_end-done-2.ensures.same, c.tell_end-done-2.ensures.passed, c.into_store-store.ensures, ← c.tell.ensures.passed)
-    (inr (cycles_by g.S.Store.kind _ _ _ c.args.plan c.in-Ok.host c.campaign_and_play-played.new.host _ _ _ _
-    c.in-Ok.ensures.starts c.unreleased.ensures.replay
-    (rw c.node-2.ensures at c.record.ensures.loads) c.campaign_and_play-played.result c.campaign_and_play-played.ensures.goes
-    c.campaign_and_play-played.ensures.writes
-    (c.campaign_and_play-played.ensures.none_waits _ c.in-Ok.ensures.starts.fresh.progress)
-    c.campaign_and_play-played.ensures.others c.campaign_and_play-played.ensures.run))
+    (inr (record {
+      start = c.in-Ok.host;
+      final = c.campaign_and_play-played.new.host;
+      starts = c.in-Ok.ensures.starts;
+      run = c.campaign_and_play-played.ensures.run;
+      replay = c.unreleased.ensures.replay;
+      left = refl;
+      loads = rw c.node-2.ensures at c.record.ensures.loads;
+    }))
+
+pub returns-in-Err-clause-owned : goal.returns-in-Err-clause-owned
+returns-in-Err-clause-owned g c =
+    refused_owned g.S.Store.kind _ _ _ c.in-Err.field-0 c.in-Err.ensures.starts c.requires.owned
+
+pub returns-clause-owned : goal.returns-clause-owned
+returns-clause-owned g c =
+    rw c.into_store-store.ensures
+    (stays_own g.S.Store.kind _ _ _ c.args.plan c.in-Ok.host c.campaign_and_play-played.new.host _ _
+    c.in-Ok.ensures.starts c.deeds_go_on.ensures c.campaign_and_play-played.result c.campaign_and_play-played.ensures.run
+    (rw c.node-2.ensures at c.record.ensures.owned))

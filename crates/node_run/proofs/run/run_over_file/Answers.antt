@@ -7,7 +7,7 @@ returns g c = record {
   ends = inr (
     c.run_over_disk-end.result.store.filed,
     _,
-    over_file _ c.args.config c.args.program.now
+    over_file _ c.args.config c.args.program.now c.cycles_are_a_run.ensures
         (rw c.requires.fresh at c.run_over_disk-end.ensures.ends),
   );
 }

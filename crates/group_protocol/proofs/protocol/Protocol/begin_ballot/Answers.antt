@@ -18,6 +18,7 @@ invariant_of-self-2 g c =
       record {
         size = i.1.size;
         ranges = rw (follows.ok, c.begin.ensures, c.new.ensures, c.known_front-from.ensures.front) fits;
+        owned = rw follows.owner i.1.owned;
         in_step = λ honest is_open. follows.saved honest ∙ sym follows.ok;
         loads = λ honest is_open q may. follows.only honest (λ none. grind arith) q may ∙ sym follows.ok;
       },

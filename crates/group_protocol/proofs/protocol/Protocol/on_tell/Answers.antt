@@ -8,5 +8,13 @@ invariant_of-self-2 g c =
     let value : IsValue c.self.inside.me.group.size c.args.value = rw (← c.self.view_is) at c.requires.value in
     let fits =
     c.rows_fit.ensures.tell _ c.self.inside.me.node c.args.place c.args.value i.1.ranges
-    (i.1.ranges.me.node, (c.requires.place, value)) in
-    (i.0, record { size = i.1.size; ranges = rw c.in_ok-on_tell.ensures.ok fits.ranges; in_step = i.1.in_step; loads = i.1.loads })
+    (i.1.ranges.me.node, (c.requires.place, value)) in (
+      i.0,
+      record {
+        size = i.1.size;
+        ranges = rw c.in_ok-on_tell.ensures.ok fits.ranges;
+        owned = i.1.owned;
+        in_step = i.1.in_step;
+        loads = i.1.loads;
+      },
+    )

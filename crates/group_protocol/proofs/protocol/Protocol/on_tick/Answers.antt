@@ -72,7 +72,10 @@ invariant_of-self-2 g c =
           let ranges =
           ticked_ranges {p = w.in-Some.proposer.known} {q = w.pump.new.proposer.known} i.1.ranges fits.ranges
           (rw w.in-Some.is refl) (rw w.reserve.ensures.same at w.pump.ensures.known) in
-          rw w.self-inside-is (i.0, record { size = i.1.size; ranges = ranges; in_step = i.1.in_step; loads = i.1.loads })
+          rw w.self-inside-is (
+            i.0,
+            record { size = i.1.size; ranges = ranges; owned = i.1.owned; in_step = i.1.in_step; loads = i.1.loads },
+          )
       | in_default w ↦ rw w.self-inside-is i
     ]
 
