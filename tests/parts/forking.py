@@ -4,9 +4,9 @@ starts it, as the user and with the environment and the folder of the cases:
     python3 forking.py SCRIPT < SOCKET
 
 First it runs the script's statements down to its last import, so that Python has loaded what the
-script loads, and nothing else: this file itself loads only modules that are parts of Python's
-program. A fork gets the streams and words of its case, and runs the whole script as `__main__`. It
-ends as Python ends each script, since Python itself ends it.
+script loads, and nothing else: this file itself loads only `gc` and `_socket`, which are written in
+C. A fork gets the streams and words of its case, and runs the whole script as `__main__`. It ends
+as Python ends each script, since Python itself ends it. Only the depth of its calls is two more.
 
 A case comes as a message of the socket: the numbers of the streams that are open, such as 012 or
 02, and the script's words, with a zero byte before each; and the files of these streams. The
@@ -84,7 +84,7 @@ def case_of(path):
         files, words = await_case(asked)
         asked.detach()
         take(files)
-    except (KeyboardInterrupt, BrokenPipeError):
+    except (KeyboardInterrupt, ConnectionError):
         os._exit(1)
     sys.argv += words
     if hasattr(sys, "orig_argv"):

@@ -120,8 +120,9 @@ class Forks:
         try:
             data = read_all(pipes, time.monotonic() + seconds)
             status = self.heard(seconds)
-        except (TimeoutError, socket.timeout):
-            os.kill(process, signal.SIGKILL)
+        except BaseException:
+            with contextlib.suppress(ProcessLookupError):
+                os.kill(process, signal.SIGKILL)
             raise
         return -os.WTERMSIG(status) if os.WIFSIGNALED(status) else os.WEXITSTATUS(status), data
 

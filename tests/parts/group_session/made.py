@@ -1,6 +1,6 @@
 """Nodes that are none, for tests of a session: a socket where keys come, a console and a record
-that the test writes. A session here has a clock of its own, which goes on at each look of a test that
-waits, so that what comes after some seconds comes at once."""
+that the test writes. A session here has a clock of its own, which goes on at each look of a test
+that waits, so that what comes after some seconds comes at once."""
 
 import os
 import socket
