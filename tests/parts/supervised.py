@@ -127,6 +127,14 @@ class Supervised(Running):
         return self.process.returncode
 
 
+def start_all(group):
+    """Starts all at once for the first time, and waits until each node can be typed at."""
+    for it in group:
+        it.begin("--new")
+    for it in group:
+        await_that(it.is_up, f"node {it.number} is up")
+
+
 def last_leader(group):
     """Returns the one of these whose node began to lead last, by what the nodes say."""
     ballots = re.findall(r" node \d leads ballot (\d+)\.(\d)\n", "".join(it.said() for it in group))

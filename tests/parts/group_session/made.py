@@ -1,18 +1,25 @@
 """Nodes that are none, for tests of a session: a socket where keys come, a console and a record
-that the test writes."""
+that the test writes. A session here has a clock of its own, which goes on at each look of a test
+that waits, so that what comes after some seconds comes at once."""
 
 import os
 import socket
 import struct
 import time
+import types
 
 from shared.nodes import free_addresses
+from shared.sitting import losses, seat, session
 from shared.sitting.seat import Seat
 from shared.sitting.session import Session
 from shared.words import text_of_address
 
 from ..files import bytes_of
 from ..program import Broken
+
+CLOCK = types.SimpleNamespace(seconds=100.0, monotonic=lambda: CLOCK.seconds)
+for it in (losses, seat, session):
+    it.time = CLOCK
 
 
 class Made:
@@ -113,6 +120,7 @@ class Play:
             if time.monotonic() > end:
                 raise Broken(f"{what}: {self.session.said}, shown {self.shown}")
             time.sleep(0.005)
+            CLOCK.seconds += 0.05
             self.step()
 
     def await_said(self, text):
