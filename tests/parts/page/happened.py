@@ -134,10 +134,10 @@ def check_two_lost():
     group.live("udu", False, 2)
     group.live("udu", 3, 3)
     group.live("uuu", 3, 3)
-    part = ("nodes 1 and 2 were killed at once, and node 3 took over after about 6 seconds."
-            + KEPT + " Node 2 is missing.")
-    whole = ("nodes 1 and 2 were killed at once. 2 of 3 nodes are needed and only 1 ran, and then "
-             "a node had to be asked to lead: the program stood still for about 6 seconds in all. "
+    part = ("nodes 1 and 2 were killed at the same time, and node 3 took over after about 6 "
+            "seconds." + KEPT + " Node 2 is missing.")
+    whole = ("nodes 1 and 2 were killed at the same time. 2 of 3 nodes are needed and only 1 ran, "
+             "and then a node had to be asked to lead: the program stood still for about 6 seconds in all. "
              "Both are up again, node 3 leads, and the program continues." + KEPT)
     found = group.told()
     expect("after the loss of two, and once all run again", found == [(1.0, part), (1.0, whole)],
@@ -147,8 +147,8 @@ def check_two_lost():
     group.lose(2, text="has ended with status 1")
     group.live("ddu", False, 2)
     group.live("udu", 1, 3)
-    part = ("node 1 was killed and node 2 has ended, both at once, and node 1 leads again after "
-            "about 2 seconds." + KEPT + " Node 2 is missing.")
+    part = ("node 1 was killed and node 2 has ended, both at the same time, and node 1 leads again "
+            "after about 2 seconds." + KEPT + " Node 2 is missing.")
     found = group.told()
     expect("two that are lost in two ways", found == [(1.0, part)], found)
     group = Group()
@@ -166,8 +166,8 @@ def check_two_lost():
     group.lose(1, 2, 3)
     group.live("ddd", False, 2)
     group.live("uuu", 2, 3)
-    whole = ("nodes 1, 2 and 3 were killed at once. 2 of 3 nodes are needed and none ran, so the "
-             "program stood still for about 2 seconds. All are up again, node 2 leads, and the "
+    whole = ("nodes 1, 2 and 3 were killed at the same time. 2 of 3 nodes are needed and none ran, "
+             "so the program stood still for about 2 seconds. All are up again, node 2 leads, and the "
              "program continues." + KEPT)
     found = group.told()
     expect("the loss of all", found == [(1.0, whole)], found)
@@ -191,8 +191,8 @@ def check_events():
     group.rise(2)
     group.live("uuu", 1, 4)
     goes = "and the program continues."
-    two = ("nodes 2 and 3 were killed at once. 2 of 3 nodes are needed and only 1 ran, so the "
-           f"program stood still for about a second. Both are up again, node {{}} leads, {goes}")
+    two = ("nodes 2 and 3 were killed at the same time. 2 of 3 nodes are needed and only 1 ran, so "
+           f"the program stood still for about a second. Both are up again, node {{}} leads, {goes}")
     wanted = [
         (1.0, "node 1 was killed. Nobody led, so the program stood still for about a second. Node "
          f"1 is up again, node 2 leads, {goes}"), (15.0, two.format(3)), (22.0, two.format(1)),

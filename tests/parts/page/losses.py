@@ -21,8 +21,8 @@ def check_few(folder):
         for it in room.group[1:]:
             it.kill()
         few = "Only 1 of 3 nodes runs, and 2 are needed"
-        heading = f"Nodes 2 and 3 are missing. {few}: the program stands still"
-        visitor.await_that(lambda: visitor.group["heading"] == heading, heading)
+        heading = rf"{LOST}\. {few}: the program stands still"
+        visitor.await_that(lambda: re.fullmatch(heading, visitor.group["heading"]), heading)
         told = visitor.group
         expect("no node is said to lead", not told["is_led"] and "leads" not in
                [it["state"] for it in told["nodes"]] and "leads" not in told["due"]["text"], told)
@@ -48,7 +48,7 @@ def check_few(folder):
     passed("without a majority: what happens, what to do, and afterwards what has happened")
 
 
-LOST = r"([Nn]odes 2 and 3 have ended at once|[Nn]ode 2 has ended, then node 3 has ended)"
+LOST = r"([Nn]odes 2 and 3 have ended at the same time|[Nn]ode 2 has ended, then node 3 has ended)"
 SPAN = r"(about a second|about \d+ seconds|about \d minutes|less than a second)"
 KEPT = r"No key that was typed here is lost\."
 

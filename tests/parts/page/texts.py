@@ -13,6 +13,10 @@ from shared.record import Ballot
 from ..checks import expect
 
 
+# Two that were lost last, each with its time, its node and how.
+TWO = [[700, 3, "was killed"], [900, 2, "was killed"]]
+
+
 def nodes(*states):
     return [{"node": at, "state": it} for at, it in enumerate(states, 1)]
 
@@ -49,6 +53,12 @@ def check_heading(_):
             "type is kept.")
     found = heading_of(nodes("up", "up", "up"), 3, None, True, True)
     expect("while supervisors run, a group that nobody leads alarms nobody", found == soon, found)
+    found = heading_of(nodes("up", "up", "up"), 3, None, True, True, TWO)
+    expect("why nobody leads, though all run again", found == "Nodes 2 and 3 were killed at the "
+           f"same time. {soon}", found)
+    found = heading_of(nodes("up", "down", "down"), 3, None, True, True, TWO)
+    expect("why no majority runs", found == "Nodes 2 and 3 were killed at the same time. Only 1 of "
+           "3 nodes runs, and 2 are needed: the program stands still", found)
     ended = [{**it, "end": "its program has ended"} for it in nodes("up", "up", "up")]
     found = heading_of(ended, 3, None, True, True)
     expect("once the program has ended nothing is kept", found == "Nobody leads; 3 of 3 nodes run, "
@@ -93,7 +103,7 @@ def check_moved():
     moved = "Node 1 has ended: the session continues at node 2, and its console is shown."
     for lost, wanted in (
         (None, "Node 1 has ended"), ("Node 1 was killed", "Node 1 was killed"),
-        ("Nodes 1 and 3 were killed at once", "Nodes 1 and 3 were killed at once"),
+        (("Nodes 1 and 3 were killed at the same time",) * 2),
     ):
         found = moved_of(moved, {1: lost}.get)
         expect(f"a session that has moved, {lost}", found == f"{wanted}: you now type at node 2, "
@@ -113,8 +123,8 @@ def check_moved():
     recovery.look(marks, [{"at": at, **it} for at, it in enumerate(nodes("up", "up", "up"))], 3, 2,
                   "kept")
     found = recovery.lost_with(1)
-    expect("those that were lost with it are found", found == "Nodes 1 and 3 were killed at once",
-           found)
+    expect("those that were lost with it are found", found == "Nodes 1 and 3 were killed at the "
+           "same time", found)
 
 
 class Restarted:
@@ -186,12 +196,12 @@ def check_stale():
 def check_due():
     """What a person is told to do while no majority runs."""
     few, still = "Only 1 of 3 nodes runs, and 2 are needed.", "The program stands still."
-    goes = "a node is asked to lead, and the program continues."
+    goes = "a node takes the lead by itself, and the program continues."
     by_itself = "You need do nothing, unless that takes longer than a minute."
     killed = {"state": "down", "supervised": True, "loss": (200, "was killed")}
     for what, of, waiting, wanted in (
         ("two that are supervised", [killed, {**killed, "loss": (100, "was killed")}], 10,
-         f"Nodes 2 and 3 were killed at once. {few} {still} What is typed is kept: 10 keys "
+         f"Nodes 2 and 3 were killed at the same time. {few} {still} What is typed is kept: 10 keys "
          f"wait. Nodes 2 and 3 are started again by their supervisors. Once one of them runs, "
          f"{goes} {by_itself}"),
         ("two that are lost one after the other",
@@ -200,8 +210,8 @@ def check_due():
          f"wait. Nodes 2 and 3 are started again by their supervisors. Once one of them runs, "
          f"{goes} {by_itself}"),
         ("two that are lost in two ways", [killed, {**killed, "loss": (300, "has ended")}], 10,
-         f"Node 2 was killed and node 3 has ended, both at once. {few} {still} What is typed is "
-         "kept: 10 keys wait. Nodes 2 and 3 are started again by their supervisors. Once one of "
+         f"Node 2 was killed and node 3 has ended, both at the same time. {few} {still} What is "
+         "typed is kept: 10 keys wait. Nodes 2 and 3 are started again by their supervisors. Once one of "
          f"them runs, {goes} {by_itself}"),
         ("one that is supervised", [{"state": "down", "supervised": True}, {"state": "down"}], 1,
          f"Nodes 2 and 3 do not run. {few} {still} What is typed is kept: 1 key waits. Node 2 is "
@@ -223,13 +233,25 @@ def check_due():
 def check_idle():
     """The same while nobody leads, after a minute, and once there is nothing to do."""
     for is_supervised, more in (
-        (True, "A supervisor asks a node by itself within seconds. You can wait."),
-        (False, "If supervisors run, one of them asks a node within seconds. You can wait for "
-                "that."),
+        (True, "One of the nodes takes the lead by itself within seconds. You need do nothing."),
+        (False, "If supervisors run, one of the nodes takes the lead by itself within seconds. You "
+                "can wait for that."),
     ):
-        due = due_of(nodes("down", "up", "up"), 3, True, is_supervised)
-        expect(f"what is due, supervised {is_supervised}", due["text"] == "Node 1 does not run. "
-               f"Nobody leads. What is typed waits until one does. {more}", due)
+        for states, last, lost, run in (
+            (("down", "up", "up"), (), "Node 1 does not run", "2 run"),
+            (("up", "down", "up"), TWO, "Nodes 2 and 3 were killed at the same time", "2 run"),
+            (("up", "up", "up"), TWO, "Nodes 2 and 3 were killed at the same time",
+             "all run again"),
+        ):
+            due = due_of(nodes(*states), 3, True, is_supervised, last=last)
+            expect(f"what is due, supervised {is_supervised}: {lost}, {run}", due["text"] ==
+                   f"{lost}. 2 of 3 nodes are needed, and {run}. Nobody leads. What is typed waits "
+                   f"until one does. {more}", due)
+    for size, states, wanted in ((3, ("up", "up", "up"), "2 of 3 nodes are needed, and all run. "),
+                                 (1, ("up",), ""), (5, ("up", "up"), "")):
+        due = due_of(nodes(*states), size, True, True)
+        expect(f"of {size} nodes {states} run", due["text"].startswith(f"{wanted}Nobody leads."),
+               due)
     ended = [{**it, "end": "ended"} for it in nodes("up", "up", "down")]
     expect("nothing is due once the program has ended", due_of(ended, 3, True) is None)
     late = due_of(nodes("down", "up", "down"), 3, True, True, 0, is_late=True)["text"]
@@ -247,22 +269,19 @@ def check_button():
     able = {"state": "up", "can_lead": True, "supervised": True, "is_new": False, "bytes": 9,
             "promised": "4.1"}
     down = {"state": "down", "supervised": True, "is_new": False, "bytes": 9, "promised": "4.1"}
-    for what, changes, wanted, is_named in (
-        ("the next one", ({}, {}, {}), 2, True),
-        ("the one behind a node that is down", ({}, down, {}), 3, True),
-        ("not one that has just begun", ({}, {"is_new": True}, {}), 3, True),
-        ("the one with the greatest ballot", ({}, {"promised": "3.3"}, {}), 3, False),
-        ("the one with the longest console", ({}, {}, {"bytes": 10}), 3, False),
-        ("without all supervisors none is named", ({"supervised": False}, {}, {}), 2, False),
+    for what, changes, wanted in (
+        ("the next one", ({}, {}, {}), 2),
+        ("the one behind a node that is down", ({}, down, {}), 3),
+        ("not one that has just begun", ({}, {"is_new": True}, {}), 3),
+        ("the one with the greatest ballot", ({}, {"promised": "3.3"}, {}), 3),
+        ("the one with the longest console", ({}, {}, {"bytes": 10}), 3),
     ):
         of = [{**able, **more, "node": at, "at": at - 1} for at, more in enumerate(changes, 1)]
         of = [{**it, "can_lead": it["state"] == "up"} for it in of]
         due = due_of(of, 3, True, True)
         expect(f"the button: {what}", due["node"] == wanted, due)
-        said = f"The supervisor of node {wanted} asks it to lead within seconds"
-        expect(f"the sentence: {what}", (said in due["text"]) == is_named, due)
-        expect("one can wait", "You can wait." in due["text"], due)
-
+        expect(f"no node is promised: {what}", "One of the nodes takes the lead" in due["text"],
+               due)
 
 
 def check_told(_):

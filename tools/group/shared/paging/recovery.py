@@ -1,19 +1,17 @@
 """What has happened since nodes were lost, in some sentences: once the program goes on without
-them, and once all nodes run again. Then the event is told: who was lost and which of them at once,
-for how long the program stood still, and what became of typed keys. The next loss begins a new
-event."""
+them, and once all nodes run again. Then the event is told: who was lost and which of them at the
+same time, for how long the program stood still, and what became of typed keys. The next loss begins
+a new event."""
 
 import collections
 
 from .heading import majority_of, missing_of, runs
 from .marks import LOST, now
-from .sentences import (
-    about, at_once, groups_at_once, in_order, losses_named, lower, nodes_named, upper, verb_of,
-)
+from .sentences import about, groups_of, lower, together, upper, verb_of, who_was_lost
 
 # How long it is waited for to know what became of the keys, and for the last loss to be over; in
-# milliseconds. With more losses than these they are counted.
-PATIENCE, SETTLED, MOST = 5000, 1500, 4
+# milliseconds.
+PATIENCE, SETTLED = 5000, 1500
 UP = "and is up again"
 KEYS = {"lost": " Some typed keys are lost: a sentence names them.",
         "kept": " No key that was typed here is lost."}
@@ -166,23 +164,14 @@ class Recovery:
             then = f"{who} leads again {after}" if self.has_stood else f"{who} leads as before"
         missing = missing_of(nodes)
         more = f" {upper(missing)}." if missing else ""
-        said = f"{lower(self.named(self.untold))}, and {then}.{keys}{more}"
+        said = f"{lower(who_was_lost(self.untold))}, and {then}.{keys}{more}"
         self.tell_anew()
         self.leader = leader
         return since, said
 
-    def named(self, lost):
-        """Who was lost, in order, or counted if that is too much."""
-        if len(groups_at_once(lost)) <= MOST:
-            return in_order(lost)
-        by_node = {}
-        for _, node, verb in lost:
-            by_node.setdefault(node, []).append(verb)
-        return losses_named(by_node)
-
     def whole(self, size, leader, has_ended):
         """All of the event, once all nodes run."""
-        since, who = self.begun(), lower(self.named(self.lost))
+        since, who = self.begun(), lower(who_was_lost(self.lost))
         nodes = {it[1] for it in self.lost}
         told = self.standing.told(since, size)
         is_known = self.standing.lasted(since, "unknown") is None and None not in self.leaders
@@ -204,5 +193,5 @@ class Recovery:
     def lost_with(self, node):
         """A node that was lost, with those that were lost at the same moment, as a sentence without
         its full stop; or None."""
-        found = [it for it in groups_at_once(self.lost) if node in [one[1] for one in it]]
-        return at_once(found[-1]) if found else None
+        found = [it for it in groups_of(self.lost) if node in [one[1] for one in it]]
+        return together(found[-1]) if found else None

@@ -12,8 +12,10 @@ AGAIN = "; the node is started again"
 # What stands behind the verb of what is told of a death.
 REST = re.compile(r" \(| with | by | refused|[,;:]")
 SIGNAL = re.compile(r"ended by (\w+)")
-# Nodes that are lost within this time are lost at once, in milliseconds.
-AT_ONCE = 500
+# Nodes that are lost within this time are lost at the same time, in milliseconds.
+TOGETHER = 500
+# With more losses than these they are counted.
+MOST = 4
 REFUSED = re.compile(r"refused by (\d+\.(\d+)) ballot (\d+\.\d+)")
 
 
@@ -106,13 +108,13 @@ def losses_named(lost):
     return upper(listed(parts))
 
 
-def groups_at_once(lost):
+def groups_of(lost):
     """The losses in order, in groups that were at one moment. Each loss has its time, its node, and
     its verb."""
     groups = []
     for it in sorted(lost):
         last = groups[-1] if groups else []
-        is_near = last and it[0] - last[0][0] <= AT_ONCE
+        is_near = last and it[0] - last[0][0] <= TOGETHER
         if is_near and it[1] not in [one[1] for one in last]:
             last.append(it)
         else:
@@ -120,18 +122,30 @@ def groups_at_once(lost):
     return groups
 
 
-def at_once(group):
+def together(group):
     """Nodes that were lost at one moment, as a sentence without its full stop."""
     group = sorted(group, key=lambda it: it[1])
     numbers, verbs = [it[1] for it in group], {it[2] for it in group}
     if len(group) == 1:
         return f"{nodes_named(numbers)} {group[0][2]}"
     if len(verbs) == 1:
-        return f"{nodes_named(numbers)} {plural(*verbs, len(group))} at once"
+        return f"{nodes_named(numbers)} {plural(*verbs, len(group))} at the same time"
     every = "both" if len(group) == 2 else "all"
-    return f"{upper(listed(f'node {node} {verb}' for _, node, verb in group))}, {every} at once"
+    who = upper(listed(f"node {node} {verb}" for _, node, verb in group))
+    return f"{who}, {every} at the same time"
 
 
 def in_order(lost):
     """Who was lost and how, as a sentence without its full stop: the first one first."""
-    return upper(", then ".join(lower(at_once(it)) for it in groups_at_once(lost)))
+    return upper(", then ".join(lower(together(it)) for it in groups_of(lost)))
+
+
+def who_was_lost(lost):
+    """Who was lost, in order, or counted if that is too much; as a sentence without its full
+    stop."""
+    if len(groups_of(lost)) <= MOST:
+        return in_order(lost)
+    by_node = {}
+    for _, node, verb in lost:
+        by_node.setdefault(node, []).append(verb)
+    return losses_named(by_node)

@@ -313,12 +313,12 @@ class Table:
         flow = flow_of(nodes, size, is_nobody)
         self.events += self.course.look(nodes, size, leader, flow == "ended")
         due = due_of(nodes, size, is_nobody, self.is_supervised(), waiting, self.course.is_late(),
-                     self.are_gone(nodes))
+                     self.are_gone(nodes), self.recovery.untold)
         leads = f"node {leader.node} leads, ballot {text_of_ballot(leader)}" if leader else None
         is_soon = self.is_supervised() and not self.course.is_late()
-        heading = heading_of(nodes, size, leads, is_nobody, is_soon)
+        heading = heading_of(nodes, size, leads, is_nobody, is_soon, self.recovery.untold)
         return {
-            "nodes": nodes, "size": size, "heading": heading, "is_soon": heading == SHORTLY,
+            "nodes": nodes, "size": size, "heading": heading, "is_soon": SHORTLY in heading,
             "is_led": bool(leader), "due": due, "until": until_of(nodes, size, flow),
             "flow": "waits" if flow == "goes" and self.is_stuck(waiting) else flow,
             "session": self.view.session if self.view else session.number,

@@ -10,6 +10,9 @@ import { followCursor } from "./screen.js";
 const FEW = 5;
 const STATES = { up: "runs", leads: "leads", down: "does not run", stopped: "is stopped",
   unknown: "is unknown" };
+// The same of a moment that is over.
+const THEN = { up: "ran", follows: "followed", leads: "led", down: "did not run",
+  stopped: "was stopped", unknown: "was unknown" };
 const ENDED = "the program has ended";
 // The cards by the numbers of the lanes, and the group as it was told last.
 let cards = new Map(), group = null, role = "watch", heardDue = null;
@@ -128,6 +131,18 @@ export function forRole(text) {
 }
 
 export const showAgain = () => group && showGroup(group);
+export const waiting = () => group?.waiting ?? 0;
+
+// Nothing is heard any more: the cards are of the time at which something was.
+export function showOld(time) {
+  for (const node of group?.nodes ?? []) {
+    const it = cardOf(node.at), isFollowing = node.state === "up" && group.is_led;
+    const word = `${THEN[isFollowing ? "follows" : node.state]}, as of ${time}`;
+    it.box.className = "node old";
+    it.box.setAttribute("aria-label", `node ${node.node} ${word}`);
+    it.state.textContent = word;
+  }
+}
 
 // How many keys wait, or what would become of one.
 function waits() {
