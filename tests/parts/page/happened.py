@@ -263,14 +263,14 @@ class Story:
         self.clock = Clock()
         self.course, self.begun, self.said = Course(self.clock), self.clock.now, []
 
-    def live(self, states, leader, seconds):
+    def live(self, states, leader, seconds, lost=()):
         words = {"u": "up", "d": "down", "k": "down"}
         nodes = nodes_of(*(words[it] for it in states))
         for it, was in zip(nodes, states):
             it.update(supervised=was == "k", log=f"/log{it['node']}" if was == "k" else None,
                       can_lead=it["state"] == "up", bytes=1)
         for _ in range(2 * seconds):
-            for when, kind, text in self.course.look(nodes, 3, leader):
+            for when, kind, text in self.course.look(nodes, 3, leader, lost=lost):
                 self.said.append(((when - self.begun) / 1000, kind, text))
             self.clock.now += 500
 
@@ -294,6 +294,18 @@ def check_course(_):
     wanted = [(2.0, "still", IDLE), (6.0, "still", FEW),
               (10.0, "still", f"{AGAIN} continues once one of them leads.")]
     expect("what becomes of a group, by seconds", story.said == wanted, *story.said)
+    story = Story()
+    story.live("uuu", 1, 2)
+    died = story.clock.now - 40
+    story.live("uuu", False, 1, [[died, 1, "was killed"]])
+    expect("behind the death of a leader it is told at once that nobody leads, and not moved",
+           story.said == [(1.96, "still", IDLE)], story.said)
+    story.live("uuu", False, 3, [[died - 9000, 3, "was killed"]])
+    expect("and once", len(story.said) == 1, story.said)
+    story = Story()
+    story.live("uuu", 1, 20)
+    story.live("uuu", False, 2, [[story.clock.now - 9000, 3, "was killed"]])
+    expect("a loss long before is no reason", story.said == [(20.0, "still", IDLE)], story.said)
     story = Story()
     story.live("duk", False, 3)
     story.live("uuk", 1, 3)

@@ -227,6 +227,7 @@ class Table:
         for it in self.lanes:
             fresh = session.tally.take_fresh(it.number()) if session.tally else []
             it.look(leader, fresh)
+        self.recovery.note_losses(self.marks, self.nodes())
         group = self.group_now(leader)
         if group != self.group or self.marks.count != count:
             self.group = group
@@ -280,6 +281,10 @@ class Table:
             return view.leader() or (False if view.leads_nobody() else None)
         return leader
 
+    def nodes(self):
+        """The lanes with the numbers of their nodes."""
+        return [{"at": it.at, "node": it.number()} for it in self.lanes]
+
     def size(self, seen):
         if self.session.tally:
             return self.session.tally.size
@@ -311,7 +316,7 @@ class Table:
         size, waiting = self.size(len(nodes)), session.waiting()
         nodes, is_nobody = with_reasons(nodes, size), leader is False
         flow = flow_of(nodes, size, is_nobody)
-        self.events += self.course.look(nodes, size, leader, flow == "ended")
+        self.events += self.course.look(nodes, size, leader, flow == "ended", self.recovery.untold)
         due = due_of(nodes, size, is_nobody, self.is_supervised(), waiting, self.course.is_late(),
                      self.are_gone(nodes), self.recovery.untold)
         leads = f"node {leader.node} leads, ballot {text_of_ballot(leader)}" if leader else None

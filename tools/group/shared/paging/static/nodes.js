@@ -29,7 +29,7 @@ async function act(path, at) {
 
 function newCard(at) {
   const it = { box: make("article", "node"), head: make("div", "head"), name: make("h2"),
-    state: make("span", "state"), here: make("span", "here", "session"), few: make("span", "few"),
+    state: make("span", "state"), here: make("span", "here"), few: make("span", "few"),
     facts: make("div", "facts"), lead: make("button", "", "Ask to lead"),
     go: make("button", "", "Type here"), svg: draw("svg", { role: "img" }) };
   it.lane = new Lane(it.svg);
@@ -65,21 +65,28 @@ function fact(name, value) {
   return it;
 }
 
+// What a node does that runs and does not lead.
+const wordOf = () => (group.is_led ? "follows" : group.until ? "runs, no leader" : STATES.up);
+
 function showCard(node) {
   const it = cardOf(node.at), name = `node ${node.node}`;
   const runs = ["up", "leads"].includes(node.state);
   const lag = runs && node.lag ? `, behind by ${many(node.lag, "byte")}` : "";
-  const word = node.state === "up" && group.is_led ? "follows" : STATES[node.state];
+  const word = node.state === "up" ? wordOf() : STATES[node.state];
   it.box.className = `node ${node.state}`;
   it.box.setAttribute("aria-label", `${name} ${word}`);
   it.name.textContent = name;
   it.state.textContent = word + lag;
   it.state.title = node.pid ? `process ${node.pid}` : "";
-  it.here.hidden = node.at !== group.seat;
+  const isHere = node.at === group.seat, had = document.activeElement === it.go;
+  it.here.hidden = !isHere;
+  it.here.textContent = role === "type" ? "you type here" : "session";
   it.few.textContent = node.fault || `${node.promised || "-"} · ${many(node.votes ?? 0, "vote")}`;
-  it.lead.hidden = it.go.hidden = role !== "type";
+  it.lead.hidden = role !== "type";
+  it.go.hidden = role !== "type" || isHere;
+  if (had && isHere) focusKeys();
   it.lead.disabled = !node.can_lead;
-  it.go.disabled = !node.can_type || node.at === group.seat;
+  it.go.disabled = !node.can_type;
   const why = node.why_not ? `, which is not possible now: ${node.why_not}` : "";
   it.lead.title = node.why_not ? `Not possible now: ${node.why_not}` : "";
   it.lead.setAttribute("aria-label", `Ask ${name} to lead${why}`);
@@ -141,6 +148,7 @@ export function showOld(time) {
     it.box.className = "node old";
     it.box.setAttribute("aria-label", `node ${node.node} ${word}`);
     it.state.textContent = word;
+    it.here.textContent = "session";
   }
 }
 
