@@ -10,7 +10,7 @@ from shared.record import Ballot
 from ..checks import expect
 
 KILLED = "was killed (SIGKILL), and its supervisor starts it again"
-KEPT = " No key that was typed here is lost."
+KEPT = " Nothing was typed here meanwhile."
 
 
 def nodes_of(*states):
@@ -35,11 +35,12 @@ class Group:
         self.recovery = Recovery(clock=self.clock)
         self.live("uuu", 1)
 
-    def live(self, states, leader, seconds=1, fate="kept"):
-        """`states` has a u for each node that runs, and a d for each that does not."""
+    def live(self, states, leader, seconds=1, fate="kept", keys=(0, 0)):
+        """`states` has a u for each node that runs, and a d for each that does not. `keys` says how
+        many keys were typed here, and how many of them wait."""
         nodes = nodes_of(*({"u": "up", "d": "down"}[it] for it in states))
         for _ in range(seconds):
-            self.recovery.note(nodes, 3, leader)
+            self.recovery.note(nodes, 3, leader, *keys)
             self.said.append(self.recovery.look(self.marks, nodes, 3, leader, fate))
             self.clock.now += 1000
 
@@ -81,7 +82,7 @@ def check_one_lost():
     expect("after the loss of a leader", found == [(1.0, part)], found)
     group.live("uuu", 2, 5)
     whole = ("node 1 was killed. Nobody led, so the program stood still for about 3 seconds. Node "
-             "1 is up again, node 2 leads, and the program continues." + KEPT)
+             "1 came up again, node 2 took the lead, and the program went on." + KEPT)
     found = group.told()
     expect("once it runs again", found == [(1.0, whole)], found)
     group.live("uuu", 2, 5)
@@ -91,14 +92,14 @@ def check_one_lost():
     group.live("udu", None, 9)
     expect("where it is unknown who leads nothing is told", group.told() == [])
     group.live("uuu", 1, 4)
-    whole = "node 2 was killed. Node 2 is up again, node 1 leads, and the program continues."
+    whole = "node 2 was killed. Node 2 came up again, node 1 led again, and the program went on."
     found = group.told()
     expect("and then nothing of what was unknown", found == [(1.0, whole + KEPT)], found)
     group = Group()
     group.lose(1)
     group.live("uuu", 2, 5)
-    whole = ("node 1 was killed. The program stood still for less than a second. Node 1 is up "
-             "again, node 2 leads, and the program continues.")
+    whole = ("node 1 was killed. The program stood still for less than a second. Node 1 came up "
+             "again, node 2 took the lead, and the program went on.")
     found = group.told()
     expect("a leader whose loss was hardly seen", found == [(1.0, whole + KEPT)], found)
 
@@ -110,7 +111,8 @@ def check_followers():
     group.live("uud", 1)
     group.rise(3)
     group.live("uuu", 1, 5)
-    one = "node 3 was killed, and is up again. It did not lead, so the program did not stand still."
+    one = ("node 3 was killed; it did not lead and the other two ran, so the program went on. It "
+           "came up again.")
     found = group.told()
     expect("a node that did not lead", found == [(1.0, one + KEPT)], found)
     group.lose(3)
@@ -121,8 +123,8 @@ def check_followers():
     group.live("udu", 1)
     group.rise(2)
     group.live("uuu", 1, 5)
-    two = ("node 3 was killed, then node 2 was killed. They did not lead, so the program did not "
-           "stand still. Both are up again.")
+    two = ("node 3 was killed, then node 2 was killed. They did not lead and enough others ran, so "
+           "the program went on. Both came up again.")
     found = group.told()
     expect("two that did not lead, one after the other", found == [(7.0, two + KEPT)], found)
 
@@ -137,8 +139,8 @@ def check_two_lost():
     part = ("nodes 1 and 2 were killed at the same time, and node 3 took over after about 6 "
             "seconds." + KEPT + " Node 2 is missing.")
     whole = ("nodes 1 and 2 were killed at the same time. 2 of 3 nodes are needed and only 1 ran, "
-             "and then a node had to be asked to lead: the program stood still for about 6 seconds in all. "
-             "Both are up again, node 3 leads, and the program continues." + KEPT)
+             "and then a node had to take the lead: the program stood still for about 6 seconds in "
+             "all. Both came up again, node 3 took the lead, and the program went on." + KEPT)
     found = group.told()
     expect("after the loss of two, and once all run again", found == [(1.0, part), (1.0, whole)],
            found)
@@ -147,7 +149,7 @@ def check_two_lost():
     group.lose(2, text="has ended with status 1")
     group.live("ddu", False, 2)
     group.live("udu", 1, 3)
-    part = ("node 1 was killed and node 2 has ended, both at the same time, and node 1 leads again "
+    part = ("node 1 was killed and node 2 has ended, both at the same time, and node 1 led again "
             "after about 2 seconds." + KEPT + " Node 2 is missing.")
     found = group.told()
     expect("two that are lost in two ways", found == [(1.0, part)], found)
@@ -158,7 +160,7 @@ def check_two_lost():
     group.live("dud", False, 2)
     group.rise(1)
     group.live("uud", 1, 3)
-    part = ("node 1 was killed, and it leads again after about 4 seconds." + KEPT +
+    part = ("node 1 was killed, and it led again after about 4 seconds." + KEPT +
             " Node 3 is missing.")
     found = group.told()
     expect("a death that is told twice is one", found == [(1.0, part)], found)
@@ -167,8 +169,8 @@ def check_two_lost():
     group.live("ddd", False, 2)
     group.live("uuu", 2, 3)
     whole = ("nodes 1, 2 and 3 were killed at the same time. 2 of 3 nodes are needed and none ran, "
-             "so the program stood still for about 2 seconds. All are up again, node 2 leads, and the "
-             "program continues." + KEPT)
+             "so the program stood still for about 2 seconds. All came up again, node 2 took the "
+             "lead, and the program went on." + KEPT)
     found = group.told()
     expect("the loss of all", found == [(1.0, whole)], found)
 
@@ -190,14 +192,15 @@ def check_events():
     group.live("udu", 1, 1)
     group.rise(2)
     group.live("uuu", 1, 4)
-    goes = "and the program continues."
+    goes = "and the program went on."
     two = ("nodes 2 and 3 were killed at the same time. 2 of 3 nodes are needed and only 1 ran, so "
-           f"the program stood still for about a second. Both are up again, node {{}} leads, {goes}")
+           f"the program stood still for about a second. Both came up again, node {{}} took the "
+           f"lead, {goes}")
     wanted = [
         (1.0, "node 1 was killed. Nobody led, so the program stood still for about a second. Node "
-         f"1 is up again, node 2 leads, {goes}"), (15.0, two.format(3)), (22.0, two.format(1)),
-        (29.0, "node 2 was killed, and is up again. It did not lead, so the program did not stand "
-         "still."),
+         f"1 came up again, node 2 took the lead, {goes}"), (15.0, two.format(3)), (22.0, two.format(1)),
+        (29.0, "node 2 was killed; it did not lead and the other two ran, so the program went on. "
+         "It came up again."),
     ]
     found = group.told()
     expect("each event is told alone", found == [(at, text + KEPT) for at, text in wanted], *found)
@@ -208,8 +211,8 @@ def check_events():
     group.live("uuu", 1, 4)
     found = group.told()
     expect("nobody led before, which is no part of it", [it[1] for it in found] == [
-        "node 2 was killed. Nobody led, so the program stood still for about a second. Node 2 is "
-        "up again, node 1 leads, and the program continues." + KEPT], found)
+        "node 2 was killed. Nobody led, so the program stood still for about a second. Node 2 came "
+        "up again, node 1 led again, and the program went on." + KEPT], found)
 
 
 def check_often():
@@ -228,8 +231,8 @@ def check_often():
     group.rise(1)
     group.live("uuu", 3, 5)
     whole = ("node 1 was killed 5 times and node 2 was killed 3 times. 2 of 3 nodes are needed and "
-             "only 1 ran, so the program stood still for about 6 seconds. Both are up again, node "
-             "3 leads, and the program continues." + KEPT)
+             "only 1 ran, so the program stood still for about 6 seconds. Both came up again, node "
+             "3 took the lead, and the program went on." + KEPT)
     found = group.told()
     expect("two that are killed again and again", found == [(1.0, whole)], found)
     with_three = group.recovery.lost_with(3)
@@ -239,12 +242,12 @@ def check_often():
 def check_fates():
     """What is told of keys."""
     for fate, wanted in (("lost", " Some typed keys are lost: a sentence names them."),
-                         ("kept", KEPT), ("none", "")):
+                         ("kept", KEPT), ("none", KEPT), ("unseen", "")):
         group = Group()
         group.lose(3)
         group.live("uud", 1, 5, fate)
         found = group.told()
-        said = f"node 3 was killed, and node 1 leads as before.{wanted} Node 3 is missing."
+        said = f"node 3 was killed, and node 1 led as before.{wanted} Node 3 is missing."
         expect(f"keys that are {fate}", found == [(1.0, said)], found)
     group = Group()
     group.lose(3)
@@ -252,8 +255,28 @@ def check_fates():
     expect("it is waited for what becomes of keys", group.told() == [])
     group.live("uud", 1, 4, "unknown")
     found = group.told()
-    expect("but not for ever", found == [(1.0, "node 3 was killed, and node 1 leads as before. "
+    expect("but not for ever", found == [(1.0, "node 3 was killed, and node 1 led as before. "
                                           "Node 3 is missing.")], found)
+    check_typed()
+
+
+def check_typed():
+    """How many keys went in: those that waited, and if the program did not stand still all."""
+    for what, leader, keys, wanted in (
+        ("none", False, (7, 0), KEPT), ("one waited", False, (8, 1), " The key went in."),
+        ("some waited", False, (18, 11), " All 11 keys went in."),
+        ("typed while the program went on", 1, (10, 0), " All 3 keys went in."),
+        ("nothing typed while it went on", 1, (7, 0), KEPT),
+    ):
+        group = Group()
+        group.live("uuu", 1, 2, keys=(7, 0))
+        group.lose(1 if leader is False else 3)
+        group.live("duu" if leader is False else "uud", leader, 2, keys=keys)
+        group.rise(1, 3)
+        group.live("uuu", leader or 2, 5, keys=(keys[0], 0))
+        found = group.told()
+        expect(f"keys of which {what}", found[-1][1].endswith(f"again.{wanted}")
+               or found[-1][1].endswith(f"the program went on.{wanted}"), found)
 
 
 class Story:

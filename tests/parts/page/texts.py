@@ -359,6 +359,20 @@ def check_life(_):
     told.see("C")
     expect("deaths and starts take turns", told.texts() ==
            ["was killed", "is up again"] * 2, told.texts())
+    for is_still, running, size, more in (
+        (False, {0, 1, 2}, 3, "; it did not lead and the other two run, so the program goes on"),
+        (False, {0, 1, 2, 3, 4}, 5,
+         "; it did not lead and the other 4 run, so the program goes on"),
+        (False, {1, 2, 3}, 5, "; it did not lead and 3 others run, so the program goes on"),
+        (False, {0, 1}, 3, ""), (False, set(), 3, ""), (True, {1, 2}, 3, ""),
+    ):
+        one = Told()
+        one.marks.is_still, one.marks.running, one.marks.size = is_still, running, size
+        one.life.note_end("was killed", one.marks.begun)
+        one.see("A", is_down=True)
+        kinds = [it[3] for it in one.marks.since(0) if it[4]]
+        expect(f"a death while {running} of {size} run, still {is_still}", one.texts() == [
+            f"was killed{more}"] and kinds == ["ended" if is_still else "gone"], one.texts(), kinds)
     crosses = sum(it[3] == "crash" for it in told.marks.since(0))
     expect("each death has one cross", crosses == 2, told.marks.since(0))
 

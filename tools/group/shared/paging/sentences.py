@@ -57,6 +57,16 @@ def death_of(text):
     return text + (", and its supervisor starts it again" if is_again else "")
 
 
+def goes_on(others, size):
+    """What is told of the death of a node that did not lead, if so many others run while one leads:
+    nothing, if these are too few."""
+    if 2 * others <= size:
+        return ""
+    who = "two" if others == 2 else others
+    who = f"the other {who}" if others == size - 1 else f"{who} others"
+    return f"; it did not lead and {who} run, so the program goes on"
+
+
 def verb_of(text):
     """The verb of what is told of a node that is lost."""
     return REST.split(text)[0]

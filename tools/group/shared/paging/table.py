@@ -16,7 +16,7 @@ from .clients import Clients
 from .counts import Counted
 from .course import Course
 from .due import due_of
-from .heading import SHORTLY, flow_of, heading_of, majority_of, until_of, with_reasons
+from .heading import RUNS, SHORTLY, flow_of, heading_of, majority_of, until_of, with_reasons
 from .heard import STILL, HeardTerminal, Readings
 from .lanes import Lane
 from .marks import Marks, now
@@ -223,7 +223,7 @@ class Table:
         """Brings what is shown of the nodes up to date."""
         session, self.shot = self.session, time.monotonic()
         leader, count = self.leader(), self.marks.count
-        self.marks.is_still = leader is False
+        self.note_running(leader)
         for it in self.lanes:
             fresh = session.tally.take_fresh(it.number()) if session.tally else []
             it.look(leader, fresh)
@@ -236,11 +236,18 @@ class Table:
             self.note_sentence(*it)
         self.tell_course(leader and leader.node)
 
+    def note_running(self, leader):
+        """Notes for deaths that are told now whether the program goes on, and which nodes run."""
+        running = {it.at for it in self.lanes if it.state(None) in RUNS}
+        running |= {("other", it["node"]) for it in self.others if it["state"] in RUNS}
+        self.marks.is_still, self.marks.running = leader is False, running if leader else set()
+        self.marks.size = self.size(len(self.lanes) + len(self.others))
+
     def tell_course(self, leader):
         """Says what has become of the group, once the deaths before that are told; and what has
         happened in all, once the program goes on after a loss."""
         nodes, size = self.group["nodes"], self.group["size"]
-        self.recovery.note(nodes, size, leader)
+        self.recovery.note(nodes, size, leader, self.session.count, self.group["waiting"])
         if any(it.life.died for it in self.lanes):
             return
         events, self.events = self.events, []
@@ -256,6 +263,8 @@ class Table:
     def fate_of_keys(self):
         """What has become of keys that were typed here since a node was lost, in a word."""
         session = self.session
+        if not self.has_seat:
+            return "unseen"
         if self.is_lossy or not session.count:
             return "lost" if self.is_lossy else "none"
         is_open = session.waiting() or session.losses.left or session.blind or not session.tally

@@ -65,9 +65,9 @@ function noteMarks([time, marks]) {
 
 // What the banner says too is heard there.
 function noteSaid([number, when, kind, said, since]) {
-  const text = (since ? `${clock(since)}: ` : "") + forRole(said);
-  show(text, kind, when);
-  if (isNews("said", number, when) && !["still", "late"].includes(kind)) hear(text);
+  const text = forRole(said), timed = (since ? `${clock(since)}: ` : "") + text;
+  show(text, kind, when, timed);
+  if (isNews("said", number, when) && !["still", "late"].includes(kind)) hear(timed);
 }
 
 function noteRead(lines) {
