@@ -72,7 +72,7 @@ def check_frozen(folder, words):
             r"This page lost its connection at [\d:]{8}\. No node was lost by that, and the session "
             r"may go on\. What was answered is safe\. Keys that are typed now are not taken\. The "
             r"page connects again by itself", told) and "again, not the program, by" in told
-            and "typed in the last moment before that may not have arrived." in told, told)
+            and re.search(r"eys? typed .*before that .*may not have arrived", told), told)
         expect("the cards are of then", tab.run(CARDS) == [
             f"{it}, as of {told[33:41]}" for it in ("led", "followed", "followed")], tab.run(CARDS))
         expect("no cursor looks alive", tab.run(CURSOR) == ["none", "rgba(0, 0, 0, 0)"],
