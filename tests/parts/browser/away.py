@@ -69,8 +69,8 @@ def check_frozen(folder, words):
         tab.await_that(AWAY, "the page says that it is old", 10)
         told = tab.run(BANNER)
         expect("it says since when, what is safe, and what to do", re.match(
-            r"This page lost its connection at [\d:]{8}\. No node was lost by that, and the session "
-            r"may go on\. What was answered is safe\. Keys that are typed now are not taken\. The "
+            r"This page lost its connection at [\d:]{8}\. No node was lost by that, and the "
+            r"session may go on\. What was answered is safe\. Keys that are typed now are not taken\. The "
             r"page connects again by itself", told) and "again, not the program, by" in told
             and re.search(r"eys? typed .*before that .*may not have arrived", told), told)
         expect("the cards are of then", tab.run(CARDS) == [

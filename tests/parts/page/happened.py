@@ -144,6 +144,10 @@ def check_two_lost():
     found = group.told()
     expect("after the loss of two, and once all run again", found == [(1.0, part), (1.0, whole)],
            found)
+    check_many_lost()
+
+
+def check_many_lost():
     group = Group()
     group.lose(1)
     group.lose(2, text="has ended with status 1")
@@ -198,7 +202,8 @@ def check_events():
            f"lead, {goes}")
     wanted = [
         (1.0, "node 1 was killed. Nobody led, so the program stood still for about a second. Node "
-         f"1 came up again, node 2 took the lead, {goes}"), (15.0, two.format(3)), (22.0, two.format(1)),
+         f"1 came up again, node 2 took the lead, {goes}"),
+        (15.0, two.format(3)), (22.0, two.format(1)),
         (29.0, "node 2 was killed; it did not lead and the other two ran, so the program went on. "
          "It came up again."),
     ]

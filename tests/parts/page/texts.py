@@ -49,6 +49,21 @@ def check_heading(_):
     ):
         found = heading_of(nodes(*states), size, leader, nobody)
         expect(what, found == what, found)
+    ended = [{**it, "end": "its program has ended"} for it in nodes("up", "up", "up")]
+    found = heading_of(ended, 3, None, True, True)
+    expect("once the program has ended nothing is kept", found == "Nobody leads; 3 of 3 nodes run, "
+           "a majority; the program has ended, and reads no key any more", found)
+    check_why()
+    check_flow()
+    check_moved()
+    check_stale()
+    check_due()
+    check_idle()
+    check_button()
+
+
+def check_why():
+    """While nobody leads, or no majority runs, the heading says who was lost."""
     soon = ("The program waits until a node leads, usually a second or two. Go on typing: what you "
             "type is kept.")
     found = heading_of(nodes("up", "up", "up"), 3, None, True, True)
@@ -59,16 +74,6 @@ def check_heading(_):
     found = heading_of(nodes("up", "down", "down"), 3, None, True, True, TWO)
     expect("why no majority runs", found == "Nodes 2 and 3 were killed at the same time. Only 1 of "
            "3 nodes runs, and 2 are needed: the program stands still", found)
-    ended = [{**it, "end": "its program has ended"} for it in nodes("up", "up", "up")]
-    found = heading_of(ended, 3, None, True, True)
-    expect("once the program has ended nothing is kept", found == "Nobody leads; 3 of 3 nodes run, "
-           "a majority; the program has ended, and reads no key any more", found)
-    check_flow()
-    check_moved()
-    check_stale()
-    check_due()
-    check_idle()
-    check_button()
 
 
 def check_flow():
@@ -201,8 +206,8 @@ def check_due():
     killed = {"state": "down", "supervised": True, "loss": (200, "was killed")}
     for what, of, waiting, wanted in (
         ("two that are supervised", [killed, {**killed, "loss": (100, "was killed")}], 10,
-         f"Nodes 2 and 3 were killed at the same time. {few} {still} What is typed is kept: 10 keys "
-         f"wait. Nodes 2 and 3 are started again by their supervisors. Once one of them runs, "
+         f"Nodes 2 and 3 were killed at the same time. {few} {still} What is typed is kept: 10 "
+         f"keys wait. Nodes 2 and 3 are started again by their supervisors. Once one of them runs, "
          f"{goes} {by_itself}"),
         ("two that are lost one after the other",
          [killed, {**killed, "loss": (701, "was killed")}], 10,
@@ -211,8 +216,8 @@ def check_due():
          f"{goes} {by_itself}"),
         ("two that are lost in two ways", [killed, {**killed, "loss": (300, "has ended")}], 10,
          f"Node 2 was killed and node 3 has ended, both at the same time. {few} {still} What is "
-         "typed is kept: 10 keys wait. Nodes 2 and 3 are started again by their supervisors. Once one of "
-         f"them runs, {goes} {by_itself}"),
+         "typed is kept: 10 keys wait. Nodes 2 and 3 are started again by their supervisors. Once "
+         f"one of them runs, {goes} {by_itself}"),
         ("one that is supervised", [{"state": "down", "supervised": True}, {"state": "down"}], 1,
          f"Nodes 2 and 3 do not run. {few} {still} What is typed is kept: 1 key waits. Node 2 is "
          f"started again by its supervisor. Once it runs, {goes} {by_itself}"),
@@ -359,6 +364,13 @@ def check_life(_):
     told.see("C")
     expect("deaths and starts take turns", told.texts() ==
            ["was killed", "is up again"] * 2, told.texts())
+    crosses = sum(it[3] == "crash" for it in told.marks.since(0))
+    expect("each death has one cross", crosses == 2, told.marks.since(0))
+    check_goes_on()
+
+
+def check_goes_on():
+    """A death by which the program does not stand still says so, if that is known."""
     for is_still, running, size, more in (
         (False, {0, 1, 2}, 3, "; it did not lead and the other two run, so the program goes on"),
         (False, {0, 1, 2, 3, 4}, 5,
@@ -373,8 +385,6 @@ def check_life(_):
         kinds = [it[3] for it in one.marks.since(0) if it[4]]
         expect(f"a death while {running} of {size} run, still {is_still}", one.texts() == [
             f"was killed{more}"] and kinds == ["ended" if is_still else "gone"], one.texts(), kinds)
-    crosses = sum(it[3] == "crash" for it in told.marks.since(0))
-    expect("each death has one cross", crosses == 2, told.marks.since(0))
 
 
 class Made:

@@ -130,7 +130,8 @@ class Recovery:
     def look(self, marks, nodes, size, leader, fate, has_ended=False):
         """`leader` is the number of the node that leads, False if it is known that none does, or
         None. `fate` is what has become of typed keys since the first loss: they are `lost`, `kept`,
-        `unknown` or `unseen`, or there are `none`. What is to be said, and when that began; or None."""
+        `unknown` or `unseen`, or there are `none`. What is to be said, and when that began; or
+        None."""
         self.note_losses(marks, nodes)
         if not leader:
             self.back = None

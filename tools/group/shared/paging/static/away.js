@@ -89,7 +89,9 @@ function look() {
 
 // What to do if the server has ended.
 function again() {
-  if (!command) return ["ask whoever gave you its address to start the page again, not the program."];
+  if (!command) {
+    return ["ask whoever gave you its address to start the page again, not the program."];
+  }
   return ["whoever started this page starts it again, not the program, by ",
     make("code", "", command), "; then open the address that it prints."];
 }
