@@ -67,16 +67,7 @@ def check_frozen(folder, words):
         tab.await_that(shown("> one"), "what was typed")
         os.kill(room.page.process.pid, signal.SIGSTOP)
         tab.await_that(AWAY, "the page says that it is old", 10)
-        told = tab.run(BANNER)
-        expect("it says since when, what is safe, and what to do", re.match(
-            r"This page lost its connection at [\d:]{8}\. No node was lost by that, and the "
-            r"session may go on\. What was answered is safe\. Keys that are typed now are not taken\. The "
-            r"page connects again by itself", told) and "again, not the program, by" in told
-            and re.search(r"eys? typed .*before that .*may not have arrived", told), told)
-        expect("the cards are of then", tab.run(CARDS) == [
-            f"{it}, as of {told[33:41]}" for it in ("led", "followed", "followed")], tab.run(CARDS))
-        expect("no cursor looks alive", tab.run(CURSOR) == ["none", "rgba(0, 0, 0, 0)"],
-               tab.run(CURSOR))
+        check_lost(tab)
         expect("no button can be pressed", tab.run(DISABLED))
         expect("nothing is said of before", tab.run(
             "document.getElementById('note').hidden && document.getElementById('due').hidden"))
@@ -105,6 +96,20 @@ def check_frozen(folder, words):
         tab.type(" two")
         tab.await_that(shown("> one two"), "keys are taken again")
         expect("what was refused was not typed", bytes_of(room.group[0].console) == b"> one two")
+
+
+def check_lost(tab):
+    """One message says what is safe, what is not, and what to do; and all is shown as of then."""
+    told = tab.run(BANNER)
+    expect("it says since when, what is safe, and what to do", re.match(
+        r"This page lost its connection at [\d:]{8}\. No node was lost by that, and the "
+        r"session may go on\. What was answered is safe\. Keys that are typed now are not taken\. "
+        r"The page connects again by itself", told) and "again, not the program, by" in told
+        and re.search(r"eys? typed .*before that .*may not have arrived", told), told)
+    expect("the cards are of then", tab.run(CARDS) == [
+        f"{it}, as of {told[33:41]}" for it in ("led", "followed", "followed")], tab.run(CARDS))
+    expect("no cursor looks alive", tab.run(CURSOR) == ["none", "rgba(0, 0, 0, 0)"],
+           tab.run(CURSOR))
 
 
 def check_slow(folder, words):

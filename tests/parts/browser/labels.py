@@ -32,7 +32,7 @@ def check_labels(folder, words):
             ("alone", campaign, ["asks to lead 3.3"]),
             ("behind a cross", [[9500, "crash", ""], *campaign], ["leads 3.3"]),
             ("before a cross", [*campaign, [900, "crash", ""]], ["asks to lead 3.3"]),
-            ("over a cross", [*campaign, [4000, "crash", ""]], []),
+            ("over a cross", [*campaign, [4000, "crash", ""]], ["leads 3.3"]),
             ("near another", [[20000, "campaign", "2.2"], [17000, "campaign", "3.2"]],
              ["asks to lead 2.2"]),
             ("far from all", [[50000, "crash", ""], [40000, "campaign", "2.2"],

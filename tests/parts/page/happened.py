@@ -269,6 +269,7 @@ def check_typed():
     """How many keys went in: those that waited, and if the program did not stand still all."""
     for what, leader, keys, wanted in (
         ("none", False, (7, 0), KEPT), ("one waited", False, (8, 1), " The key went in."),
+        ("two waited", False, (9, 2), " Both keys went in."),
         ("some waited", False, (18, 11), " All 11 keys went in."),
         ("typed while the program went on", 1, (10, 0), " All 3 keys went in."),
         ("nothing typed while it went on", 1, (7, 0), KEPT),

@@ -36,4 +36,5 @@ class Typed:
         count = self.most or (0 if has_stood else self.count - (self.before or 0))
         if not count:
             return NONE
-        return " The key went in." if count == 1 else f" All {count} keys went in."
+        every = {1: "The key", 2: "Both keys"}.get(count, f"All {count} keys")
+        return f" {every} went in."

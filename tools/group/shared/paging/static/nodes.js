@@ -214,9 +214,10 @@ function hearDue() {
 
 // F6: to the first thing that can be done about the nodes.
 export function leave() {
-  const due = $("due").lastElementChild, first = document.querySelector("#nodes button:enabled");
+  const due = $("due").lastElementChild;
+  const first = document.querySelector("#nodes button:enabled:not([hidden])");
   const isDue = !$("due").hidden && !due.hidden;
-  (isDue ? due : first && !first.hidden ? first : $("said")).focus();
+  (isDue ? due : first ?? $("said")).focus();
 }
 
 let isDue = false;
