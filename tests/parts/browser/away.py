@@ -3,6 +3,7 @@ who hear the page are told."""
 
 import os
 import random
+import re
 import signal
 import time
 
@@ -18,6 +19,9 @@ DISABLED = ("[...document.querySelectorAll('#nodes button, #due button, #touch b
 AWAY = "!document.getElementById('away').hidden"
 BANNER = "document.getElementById('away').innerText"
 HEARD = "window.heard"
+CARDS = "[...document.querySelectorAll('.node .state')].map((it) => it.textContent)"
+CURSOR = """(() => { const it = getComputedStyle(document.querySelector(".cursor"));
+  return [it.boxShadow, it.backgroundColor]; })()"""
 LISTEN = """window.heard = []; new MutationObserver((all) => all.forEach((it) =>
   it.addedNodes.forEach((one) => window.heard.push(one.textContent)))).observe(
   document.getElementById("read"), { childList: true });"""
@@ -63,21 +67,18 @@ def check_frozen(folder, words):
         tab.await_that(shown("> one"), "what was typed")
         os.kill(room.page.process.pid, signal.SIGSTOP)
         tab.await_that(AWAY, "the page says that it is old", 10)
-        told = tab.run(BANNER)
-        expect("it says since when, and what to do", told.startswith("Not connected since ")
-               and "what is shown here is from then." in told and "connects again by itself" in told
-               and "Keys that are typed now are not taken. The nodes may still run" in told, told)
+        check_lost(tab)
         expect("no button can be pressed", tab.run(DISABLED))
         expect("nothing is said of before", tab.run(
             "document.getElementById('note').hidden && document.getElementById('due').hidden"))
         expect("the list has it with its time", tab.run(
-            "/^[0-9:]{8}The connection to the page's server was lost/.test(document.getElementById("
-            "'said').lastElementChild.textContent)"))
+            "/^[0-9:]{8}This page lost its connection/.test(document.getElementById('said')"
+            ".lastElementChild.textContent)"))
         tab.type("xyz")
         tab.await_that(f"{BANNER}.includes('3 keys typed since then: refused.')",
                        "keys are refused, and that is seen")
         expect("the heading is not that of a group that runs", tab.run(
-            "document.getElementById('heading').textContent").startswith("Not connected since "))
+            "document.getElementById('heading').textContent") == "")
         check_contrast(tab, "a page that is old")
         picture(tab, words, "away")
         os.kill(room.page.process.pid, signal.SIGCONT)
@@ -89,10 +90,26 @@ def check_frozen(folder, words):
         tab.await_that("document.querySelector('#touch button').disabled === false && "
                        "[...document.querySelectorAll('#nodes button')].some((it) => !it.disabled)",
                        "buttons can be pressed again")
-        tab.await_that(said("The connection to the page's server was lost."), "it can be read")
+        tab.await_that(said("This page lost its connection."), "it can be read")
+        expect("the cards are of now again", tab.run(CARDS) == ["leads", "follows", "follows"],
+               tab.run(CARDS))
         tab.type(" two")
         tab.await_that(shown("> one two"), "keys are taken again")
         expect("what was refused was not typed", bytes_of(room.group[0].console) == b"> one two")
+
+
+def check_lost(tab):
+    """One message says what is safe, what is not, and what to do; and all is shown as of then."""
+    told = tab.run(BANNER)
+    expect("it says since when, what is safe, and what to do", re.match(
+        r"This page lost its connection at [\d:]{8}\. No node was lost by that, and the "
+        r"session may go on\. What was answered is safe\. Keys that are typed now are not taken\. "
+        r"The page connects again by itself", told) and "again, not the program, by" in told
+        and re.search(r"eys? typed .*before that .*may not have arrived", told), told)
+    expect("the cards are of then", tab.run(CARDS) == [
+        f"{it}, as of {told[33:41]}" for it in ("led", "followed", "followed")], tab.run(CARDS))
+    expect("no cursor looks alive", tab.run(CURSOR) == ["none", "rgba(0, 0, 0, 0)"],
+           tab.run(CURSOR))
 
 
 def check_slow(folder, words):
@@ -135,10 +152,12 @@ def check_gone(folder, words):
             told = tab.run(BANNER)
             expect("how it is started again is said", room.group[0].record in told
                    and "open the address that it prints" in told, told)
+            expect("not the program is started again", "again, not the program" in told, told)
             expect("that it has ended is said if it is known",
                    ("The page's server has ended" in told) == (number == signal.SIGTERM), told)
             other = phone.run(BANNER)
-            expect("who watches is told no command", "ask whoever gave you its address" in other
+            expect("who watches is told no command, and nothing of keys",
+                   "ask whoever gave you its address" in other and "eys " not in other
                    and room.group[0].record not in other, other)
             check_contrast(phone, f"a server that is {name}")
             check_width(phone, f"a server that is {name}", 360)

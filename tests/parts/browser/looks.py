@@ -119,3 +119,17 @@ def check_live(tab, what):
     be heard twice."""
     found = tab.run(LIVE)
     expect(f"{what}: two parts are read out by themselves", found == ["away", "read"], found)
+
+
+HERE = """[...document.querySelectorAll(".node")].filter((it) =>
+  !it.querySelector(".here").hidden).map((it) =>
+  `${it.querySelector("h2").textContent}: ${it.querySelector(".here").textContent}`)"""
+
+
+def check_here(tab, wanted):
+    """One card says that the session is there, and has no button to go there."""
+    found = tab.run(HERE)
+    expect(f"the card of the session: {wanted}", found == [f"node 1: {wanted}"], found)
+    names = tab.run("[...document.querySelectorAll('#nodes button')].filter((it) => "
+                    "it.offsetParent).map((it) => it.ariaLabel)")
+    expect("it has no button to go there", "Type at node 1" not in names, names)

@@ -10,7 +10,7 @@ from shared.record import Ballot
 from ..checks import expect
 
 KILLED = "was killed (SIGKILL), and its supervisor starts it again"
-KEPT = " No key that was typed here is lost."
+KEPT = " Nothing was typed here meanwhile."
 
 
 def nodes_of(*states):
@@ -35,11 +35,12 @@ class Group:
         self.recovery = Recovery(clock=self.clock)
         self.live("uuu", 1)
 
-    def live(self, states, leader, seconds=1, fate="kept"):
-        """`states` has a u for each node that runs, and a d for each that does not."""
+    def live(self, states, leader, seconds=1, fate="kept", keys=(0, 0)):
+        """`states` has a u for each node that runs, and a d for each that does not. `keys` says how
+        many keys were typed here, and how many of them wait."""
         nodes = nodes_of(*({"u": "up", "d": "down"}[it] for it in states))
         for _ in range(seconds):
-            self.recovery.note(nodes, 3, leader)
+            self.recovery.note(nodes, 3, leader, *keys)
             self.said.append(self.recovery.look(self.marks, nodes, 3, leader, fate))
             self.clock.now += 1000
 
@@ -81,7 +82,7 @@ def check_one_lost():
     expect("after the loss of a leader", found == [(1.0, part)], found)
     group.live("uuu", 2, 5)
     whole = ("node 1 was killed. Nobody led, so the program stood still for about 3 seconds. Node "
-             "1 is up again, node 2 leads, and the program continues." + KEPT)
+             "1 came up again, node 2 took the lead, and the program went on." + KEPT)
     found = group.told()
     expect("once it runs again", found == [(1.0, whole)], found)
     group.live("uuu", 2, 5)
@@ -91,14 +92,14 @@ def check_one_lost():
     group.live("udu", None, 9)
     expect("where it is unknown who leads nothing is told", group.told() == [])
     group.live("uuu", 1, 4)
-    whole = "node 2 was killed. Node 2 is up again, node 1 leads, and the program continues."
+    whole = "node 2 was killed. Node 2 came up again, node 1 led again, and the program went on."
     found = group.told()
     expect("and then nothing of what was unknown", found == [(1.0, whole + KEPT)], found)
     group = Group()
     group.lose(1)
     group.live("uuu", 2, 5)
-    whole = ("node 1 was killed. The program stood still for less than a second. Node 1 is up "
-             "again, node 2 leads, and the program continues.")
+    whole = ("node 1 was killed. The program stood still for less than a second. Node 1 came up "
+             "again, node 2 took the lead, and the program went on.")
     found = group.told()
     expect("a leader whose loss was hardly seen", found == [(1.0, whole + KEPT)], found)
 
@@ -110,7 +111,8 @@ def check_followers():
     group.live("uud", 1)
     group.rise(3)
     group.live("uuu", 1, 5)
-    one = "node 3 was killed, and is up again. It did not lead, so the program did not stand still."
+    one = ("node 3 was killed; it did not lead and the other two ran, so the program went on. It "
+           "came up again.")
     found = group.told()
     expect("a node that did not lead", found == [(1.0, one + KEPT)], found)
     group.lose(3)
@@ -121,8 +123,8 @@ def check_followers():
     group.live("udu", 1)
     group.rise(2)
     group.live("uuu", 1, 5)
-    two = ("node 3 was killed, then node 2 was killed. They did not lead, so the program did not "
-           "stand still. Both are up again.")
+    two = ("node 3 was killed, then node 2 was killed. They did not lead and enough others ran, so "
+           "the program went on. Both came up again.")
     found = group.told()
     expect("two that did not lead, one after the other", found == [(7.0, two + KEPT)], found)
 
@@ -134,21 +136,25 @@ def check_two_lost():
     group.live("udu", False, 2)
     group.live("udu", 3, 3)
     group.live("uuu", 3, 3)
-    part = ("nodes 1 and 2 were killed at once, and node 3 took over after about 6 seconds."
-            + KEPT + " Node 2 is missing.")
-    whole = ("nodes 1 and 2 were killed at once. 2 of 3 nodes are needed and only 1 ran, and then "
-             "a node had to be asked to lead: the program stood still for about 6 seconds in all. "
-             "Both are up again, node 3 leads, and the program continues." + KEPT)
+    part = ("nodes 1 and 2 were killed at the same time, and node 3 took over after about 6 "
+            "seconds." + KEPT + " Node 2 is missing.")
+    whole = ("nodes 1 and 2 were killed at the same time. 2 of 3 nodes are needed and only 1 ran, "
+             "and then a node had to take the lead: the program stood still for about 6 seconds in "
+             "all. Both came up again, node 3 took the lead, and the program went on." + KEPT)
     found = group.told()
     expect("after the loss of two, and once all run again", found == [(1.0, part), (1.0, whole)],
            found)
+    check_many_lost()
+
+
+def check_many_lost():
     group = Group()
     group.lose(1)
     group.lose(2, text="has ended with status 1")
     group.live("ddu", False, 2)
     group.live("udu", 1, 3)
-    part = ("node 1 was killed and node 2 has ended, both at once, and node 1 leads again after "
-            "about 2 seconds." + KEPT + " Node 2 is missing.")
+    part = ("node 1 was killed and node 2 has ended, both at the same time, and node 1 led again "
+            "after about 2 seconds." + KEPT + " Node 2 is missing.")
     found = group.told()
     expect("two that are lost in two ways", found == [(1.0, part)], found)
     group = Group()
@@ -158,7 +164,7 @@ def check_two_lost():
     group.live("dud", False, 2)
     group.rise(1)
     group.live("uud", 1, 3)
-    part = ("node 1 was killed, and it leads again after about 4 seconds." + KEPT +
+    part = ("node 1 was killed, and it led again after about 4 seconds." + KEPT +
             " Node 3 is missing.")
     found = group.told()
     expect("a death that is told twice is one", found == [(1.0, part)], found)
@@ -166,9 +172,9 @@ def check_two_lost():
     group.lose(1, 2, 3)
     group.live("ddd", False, 2)
     group.live("uuu", 2, 3)
-    whole = ("nodes 1, 2 and 3 were killed at once. 2 of 3 nodes are needed and none ran, so the "
-             "program stood still for about 2 seconds. All are up again, node 2 leads, and the "
-             "program continues." + KEPT)
+    whole = ("nodes 1, 2 and 3 were killed at the same time. 2 of 3 nodes are needed and none ran, "
+             "so the program stood still for about 2 seconds. All came up again, node 2 took the "
+             "lead, and the program went on." + KEPT)
     found = group.told()
     expect("the loss of all", found == [(1.0, whole)], found)
 
@@ -190,14 +196,16 @@ def check_events():
     group.live("udu", 1, 1)
     group.rise(2)
     group.live("uuu", 1, 4)
-    goes = "and the program continues."
-    two = ("nodes 2 and 3 were killed at once. 2 of 3 nodes are needed and only 1 ran, so the "
-           f"program stood still for about a second. Both are up again, node {{}} leads, {goes}")
+    goes = "and the program went on."
+    two = ("nodes 2 and 3 were killed at the same time. 2 of 3 nodes are needed and only 1 ran, so "
+           f"the program stood still for about a second. Both came up again, node {{}} took the "
+           f"lead, {goes}")
     wanted = [
         (1.0, "node 1 was killed. Nobody led, so the program stood still for about a second. Node "
-         f"1 is up again, node 2 leads, {goes}"), (15.0, two.format(3)), (22.0, two.format(1)),
-        (29.0, "node 2 was killed, and is up again. It did not lead, so the program did not stand "
-         "still."),
+         f"1 came up again, node 2 took the lead, {goes}"),
+        (15.0, two.format(3)), (22.0, two.format(1)),
+        (29.0, "node 2 was killed; it did not lead and the other two ran, so the program went on. "
+         "It came up again."),
     ]
     found = group.told()
     expect("each event is told alone", found == [(at, text + KEPT) for at, text in wanted], *found)
@@ -208,8 +216,8 @@ def check_events():
     group.live("uuu", 1, 4)
     found = group.told()
     expect("nobody led before, which is no part of it", [it[1] for it in found] == [
-        "node 2 was killed. Nobody led, so the program stood still for about a second. Node 2 is "
-        "up again, node 1 leads, and the program continues." + KEPT], found)
+        "node 2 was killed. Nobody led, so the program stood still for about a second. Node 2 came "
+        "up again, node 1 led again, and the program went on." + KEPT], found)
 
 
 def check_often():
@@ -228,8 +236,8 @@ def check_often():
     group.rise(1)
     group.live("uuu", 3, 5)
     whole = ("node 1 was killed 5 times and node 2 was killed 3 times. 2 of 3 nodes are needed and "
-             "only 1 ran, so the program stood still for about 6 seconds. Both are up again, node "
-             "3 leads, and the program continues." + KEPT)
+             "only 1 ran, so the program stood still for about 6 seconds. Both came up again, node "
+             "3 took the lead, and the program went on." + KEPT)
     found = group.told()
     expect("two that are killed again and again", found == [(1.0, whole)], found)
     with_three = group.recovery.lost_with(3)
@@ -239,12 +247,12 @@ def check_often():
 def check_fates():
     """What is told of keys."""
     for fate, wanted in (("lost", " Some typed keys are lost: a sentence names them."),
-                         ("kept", KEPT), ("none", "")):
+                         ("kept", KEPT), ("none", KEPT), ("unseen", "")):
         group = Group()
         group.lose(3)
         group.live("uud", 1, 5, fate)
         found = group.told()
-        said = f"node 3 was killed, and node 1 leads as before.{wanted} Node 3 is missing."
+        said = f"node 3 was killed, and node 1 led as before.{wanted} Node 3 is missing."
         expect(f"keys that are {fate}", found == [(1.0, said)], found)
     group = Group()
     group.lose(3)
@@ -252,8 +260,29 @@ def check_fates():
     expect("it is waited for what becomes of keys", group.told() == [])
     group.live("uud", 1, 4, "unknown")
     found = group.told()
-    expect("but not for ever", found == [(1.0, "node 3 was killed, and node 1 leads as before. "
+    expect("but not for ever", found == [(1.0, "node 3 was killed, and node 1 led as before. "
                                           "Node 3 is missing.")], found)
+    check_typed()
+
+
+def check_typed():
+    """How many keys went in: those that waited, and if the program did not stand still all."""
+    for what, leader, keys, wanted in (
+        ("none", False, (7, 0), KEPT), ("one waited", False, (8, 1), " The key went in."),
+        ("two waited", False, (9, 2), " Both keys went in."),
+        ("some waited", False, (18, 11), " All 11 keys went in."),
+        ("typed while the program went on", 1, (10, 0), " All 3 keys went in."),
+        ("nothing typed while it went on", 1, (7, 0), KEPT),
+    ):
+        group = Group()
+        group.live("uuu", 1, 2, keys=(7, 0))
+        group.lose(1 if leader is False else 3)
+        group.live("duu" if leader is False else "uud", leader, 2, keys=keys)
+        group.rise(1, 3)
+        group.live("uuu", leader or 2, 5, keys=(keys[0], 0))
+        found = group.told()
+        expect(f"keys of which {what}", found[-1][1].endswith(f"again.{wanted}")
+               or found[-1][1].endswith(f"the program went on.{wanted}"), found)
 
 
 class Story:
@@ -263,14 +292,14 @@ class Story:
         self.clock = Clock()
         self.course, self.begun, self.said = Course(self.clock), self.clock.now, []
 
-    def live(self, states, leader, seconds):
+    def live(self, states, leader, seconds, lost=()):
         words = {"u": "up", "d": "down", "k": "down"}
         nodes = nodes_of(*(words[it] for it in states))
         for it, was in zip(nodes, states):
             it.update(supervised=was == "k", log=f"/log{it['node']}" if was == "k" else None,
                       can_lead=it["state"] == "up", bytes=1)
         for _ in range(2 * seconds):
-            for when, kind, text in self.course.look(nodes, 3, leader):
+            for when, kind, text in self.course.look(nodes, 3, leader, lost=lost):
                 self.said.append(((when - self.begun) / 1000, kind, text))
             self.clock.now += 500
 
@@ -294,6 +323,18 @@ def check_course(_):
     wanted = [(2.0, "still", IDLE), (6.0, "still", FEW),
               (10.0, "still", f"{AGAIN} continues once one of them leads.")]
     expect("what becomes of a group, by seconds", story.said == wanted, *story.said)
+    story = Story()
+    story.live("uuu", 1, 2)
+    died = story.clock.now - 40
+    story.live("uuu", False, 1, [[died, 1, "was killed"]])
+    expect("behind the death of a leader it is told at once that nobody leads, and not moved",
+           story.said == [(1.96, "still", IDLE)], story.said)
+    story.live("uuu", False, 3, [[died - 9000, 3, "was killed"]])
+    expect("and once", len(story.said) == 1, story.said)
+    story = Story()
+    story.live("uuu", 1, 20)
+    story.live("uuu", False, 2, [[story.clock.now - 9000, 3, "was killed"]])
+    expect("a loss long before is no reason", story.said == [(20.0, "still", IDLE)], story.said)
     story = Story()
     story.live("duk", False, 3)
     story.live("uuk", 1, 3)

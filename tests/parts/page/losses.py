@@ -21,8 +21,8 @@ def check_few(folder):
         for it in room.group[1:]:
             it.kill()
         few = "Only 1 of 3 nodes runs, and 2 are needed"
-        heading = f"Nodes 2 and 3 are missing. {few}: the program stands still"
-        visitor.await_that(lambda: visitor.group["heading"] == heading, heading)
+        heading = rf"{LOST}\. {few}: the program stands still"
+        visitor.await_that(lambda: re.fullmatch(heading, visitor.group["heading"]), heading)
         told = visitor.group
         expect("no node is said to lead", not told["is_led"] and "leads" not in
                [it["state"] for it in told["nodes"]] and "leads" not in told["due"]["text"], told)
@@ -39,18 +39,18 @@ def check_few(folder):
         visitor.await_that(lambda: not visitor.group["due"], "nothing is due")
         again = "2 of 3 nodes run again, which is a majority: the program continues"
         await_said(visitor, rf"{again}( once one of them leads)?\.")
-        await_said(visitor, rf"{LOST}, and node 1 leads again after {SPAN}\. {KEPT} Node 2 is "
+        await_said(visitor, rf"{LOST}, and node 1 led again after {SPAN}\. {KEPT} Node 2 is "
                    r"missing\.")
         room.group[1].begin()
         await_said(visitor, rf"{LOST}\. 2 of 3 nodes are needed and only 1 ran, (so|and then a "
-                   rf"node had to be asked to lead:) the program stood still for {SPAN}( in all)?"
-                   rf"\. Both are up again, node 1 leads, and the program continues\. {KEPT}")
+                   rf"node had to take the lead:) the program stood still for {SPAN}( in all)?"
+                   rf"\. Both came up again, node 1 led again, and the program went on\. {KEPT}")
     passed("without a majority: what happens, what to do, and afterwards what has happened")
 
 
-LOST = r"([Nn]odes 2 and 3 have ended at once|[Nn]ode 2 has ended, then node 3 has ended)"
+LOST = r"([Nn]odes 2 and 3 have ended at the same time|[Nn]ode 2 has ended, then node 3 has ended)"
 SPAN = r"(about a second|about \d+ seconds|about \d minutes|less than a second)"
-KEPT = r"No key that was typed here is lost\."
+KEPT = r"All 4 keys went in\."
 
 
 def await_said(visitor, pattern):

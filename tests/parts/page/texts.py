@@ -13,6 +13,10 @@ from shared.record import Ballot
 from ..checks import expect
 
 
+# Two that were lost last, each with its time, its node and how.
+TWO = [[700, 3, "was killed"], [900, 2, "was killed"]]
+
+
 def nodes(*states):
     return [{"node": at, "state": it} for at, it in enumerate(states, 1)]
 
@@ -45,20 +49,31 @@ def check_heading(_):
     ):
         found = heading_of(nodes(*states), size, leader, nobody)
         expect(what, found == what, found)
-    soon = ("The program waits until a node leads, usually a second or two. Go on typing: what you "
-            "type is kept.")
-    found = heading_of(nodes("up", "up", "up"), 3, None, True, True)
-    expect("while supervisors run, a group that nobody leads alarms nobody", found == soon, found)
     ended = [{**it, "end": "its program has ended"} for it in nodes("up", "up", "up")]
     found = heading_of(ended, 3, None, True, True)
     expect("once the program has ended nothing is kept", found == "Nobody leads; 3 of 3 nodes run, "
            "a majority; the program has ended, and reads no key any more", found)
+    check_why()
     check_flow()
     check_moved()
     check_stale()
     check_due()
     check_idle()
     check_button()
+
+
+def check_why():
+    """While nobody leads, or no majority runs, the heading says who was lost."""
+    soon = ("The program waits until a node leads, usually a second or two. Go on typing: what you "
+            "type is kept.")
+    found = heading_of(nodes("up", "up", "up"), 3, None, True, True)
+    expect("while supervisors run, a group that nobody leads alarms nobody", found == soon, found)
+    found = heading_of(nodes("up", "up", "up"), 3, None, True, True, TWO)
+    expect("why nobody leads, though all run again", found == "Nodes 2 and 3 were killed at the "
+           f"same time. {soon}", found)
+    found = heading_of(nodes("up", "down", "down"), 3, None, True, True, TWO)
+    expect("why no majority runs", found == "Nodes 2 and 3 were killed at the same time. Only 1 of "
+           "3 nodes runs, and 2 are needed: the program stands still", found)
 
 
 def check_flow():
@@ -93,7 +108,7 @@ def check_moved():
     moved = "Node 1 has ended: the session continues at node 2, and its console is shown."
     for lost, wanted in (
         (None, "Node 1 has ended"), ("Node 1 was killed", "Node 1 was killed"),
-        ("Nodes 1 and 3 were killed at once", "Nodes 1 and 3 were killed at once"),
+        (("Nodes 1 and 3 were killed at the same time",) * 2),
     ):
         found = moved_of(moved, {1: lost}.get)
         expect(f"a session that has moved, {lost}", found == f"{wanted}: you now type at node 2, "
@@ -113,8 +128,8 @@ def check_moved():
     recovery.look(marks, [{"at": at, **it} for at, it in enumerate(nodes("up", "up", "up"))], 3, 2,
                   "kept")
     found = recovery.lost_with(1)
-    expect("those that were lost with it are found", found == "Nodes 1 and 3 were killed at once",
-           found)
+    expect("those that were lost with it are found", found == "Nodes 1 and 3 were killed at the "
+           "same time", found)
 
 
 class Restarted:
@@ -186,13 +201,13 @@ def check_stale():
 def check_due():
     """What a person is told to do while no majority runs."""
     few, still = "Only 1 of 3 nodes runs, and 2 are needed.", "The program stands still."
-    goes = "a node is asked to lead, and the program continues."
+    goes = "a node takes the lead by itself, and the program continues."
     by_itself = "You need do nothing, unless that takes longer than a minute."
     killed = {"state": "down", "supervised": True, "loss": (200, "was killed")}
     for what, of, waiting, wanted in (
         ("two that are supervised", [killed, {**killed, "loss": (100, "was killed")}], 10,
-         f"Nodes 2 and 3 were killed at once. {few} {still} What is typed is kept: 10 keys "
-         f"wait. Nodes 2 and 3 are started again by their supervisors. Once one of them runs, "
+         f"Nodes 2 and 3 were killed at the same time. {few} {still} What is typed is kept: 10 "
+         f"keys wait. Nodes 2 and 3 are started again by their supervisors. Once one of them runs, "
          f"{goes} {by_itself}"),
         ("two that are lost one after the other",
          [killed, {**killed, "loss": (701, "was killed")}], 10,
@@ -200,9 +215,9 @@ def check_due():
          f"wait. Nodes 2 and 3 are started again by their supervisors. Once one of them runs, "
          f"{goes} {by_itself}"),
         ("two that are lost in two ways", [killed, {**killed, "loss": (300, "has ended")}], 10,
-         f"Node 2 was killed and node 3 has ended, both at once. {few} {still} What is typed is "
-         "kept: 10 keys wait. Nodes 2 and 3 are started again by their supervisors. Once one of "
-         f"them runs, {goes} {by_itself}"),
+         f"Node 2 was killed and node 3 has ended, both at the same time. {few} {still} What is "
+         "typed is kept: 10 keys wait. Nodes 2 and 3 are started again by their supervisors. Once "
+         f"one of them runs, {goes} {by_itself}"),
         ("one that is supervised", [{"state": "down", "supervised": True}, {"state": "down"}], 1,
          f"Nodes 2 and 3 do not run. {few} {still} What is typed is kept: 1 key waits. Node 2 is "
          f"started again by its supervisor. Once it runs, {goes} {by_itself}"),
@@ -223,13 +238,25 @@ def check_due():
 def check_idle():
     """The same while nobody leads, after a minute, and once there is nothing to do."""
     for is_supervised, more in (
-        (True, "A supervisor asks a node by itself within seconds. You can wait."),
-        (False, "If supervisors run, one of them asks a node within seconds. You can wait for "
-                "that."),
+        (True, "One of the nodes takes the lead by itself within seconds. You need do nothing."),
+        (False, "If supervisors run, one of the nodes takes the lead by itself within seconds. You "
+                "can wait for that."),
     ):
-        due = due_of(nodes("down", "up", "up"), 3, True, is_supervised)
-        expect(f"what is due, supervised {is_supervised}", due["text"] == "Node 1 does not run. "
-               f"Nobody leads. What is typed waits until one does. {more}", due)
+        for states, last, lost, run in (
+            (("down", "up", "up"), (), "Node 1 does not run", "2 run"),
+            (("up", "down", "up"), TWO, "Nodes 2 and 3 were killed at the same time", "2 run"),
+            (("up", "up", "up"), TWO, "Nodes 2 and 3 were killed at the same time",
+             "all run again"),
+        ):
+            due = due_of(nodes(*states), 3, True, is_supervised, last=last)
+            expect(f"what is due, supervised {is_supervised}: {lost}, {run}", due["text"] ==
+                   f"{lost}. 2 of 3 nodes are needed, and {run}. Nobody leads. What is typed waits "
+                   f"until one does. {more}", due)
+    for size, states, wanted in ((3, ("up", "up", "up"), "2 of 3 nodes are needed, and all run. "),
+                                 (1, ("up",), ""), (5, ("up", "up"), "")):
+        due = due_of(nodes(*states), size, True, True)
+        expect(f"of {size} nodes {states} run", due["text"].startswith(f"{wanted}Nobody leads."),
+               due)
     ended = [{**it, "end": "ended"} for it in nodes("up", "up", "down")]
     expect("nothing is due once the program has ended", due_of(ended, 3, True) is None)
     late = due_of(nodes("down", "up", "down"), 3, True, True, 0, is_late=True)["text"]
@@ -247,22 +274,19 @@ def check_button():
     able = {"state": "up", "can_lead": True, "supervised": True, "is_new": False, "bytes": 9,
             "promised": "4.1"}
     down = {"state": "down", "supervised": True, "is_new": False, "bytes": 9, "promised": "4.1"}
-    for what, changes, wanted, is_named in (
-        ("the next one", ({}, {}, {}), 2, True),
-        ("the one behind a node that is down", ({}, down, {}), 3, True),
-        ("not one that has just begun", ({}, {"is_new": True}, {}), 3, True),
-        ("the one with the greatest ballot", ({}, {"promised": "3.3"}, {}), 3, False),
-        ("the one with the longest console", ({}, {}, {"bytes": 10}), 3, False),
-        ("without all supervisors none is named", ({"supervised": False}, {}, {}), 2, False),
+    for what, changes, wanted in (
+        ("the next one", ({}, {}, {}), 2),
+        ("the one behind a node that is down", ({}, down, {}), 3),
+        ("not one that has just begun", ({}, {"is_new": True}, {}), 3),
+        ("the one with the greatest ballot", ({}, {"promised": "3.3"}, {}), 3),
+        ("the one with the longest console", ({}, {}, {"bytes": 10}), 3),
     ):
         of = [{**able, **more, "node": at, "at": at - 1} for at, more in enumerate(changes, 1)]
         of = [{**it, "can_lead": it["state"] == "up"} for it in of]
         due = due_of(of, 3, True, True)
         expect(f"the button: {what}", due["node"] == wanted, due)
-        said = f"The supervisor of node {wanted} asks it to lead within seconds"
-        expect(f"the sentence: {what}", (said in due["text"]) == is_named, due)
-        expect("one can wait", "You can wait." in due["text"], due)
-
+        expect(f"no node is promised: {what}", "One of the nodes takes the lead" in due["text"],
+               due)
 
 
 def check_told(_):
@@ -342,6 +366,25 @@ def check_life(_):
            ["was killed", "is up again"] * 2, told.texts())
     crosses = sum(it[3] == "crash" for it in told.marks.since(0))
     expect("each death has one cross", crosses == 2, told.marks.since(0))
+    check_goes_on()
+
+
+def check_goes_on():
+    """A death by which the program does not stand still says so, if that is known."""
+    for is_still, running, size, more in (
+        (False, {0, 1, 2}, 3, "; it did not lead and the other two run, so the program goes on"),
+        (False, {0, 1, 2, 3, 4}, 5,
+         "; it did not lead and the other 4 run, so the program goes on"),
+        (False, {1, 2, 3}, 5, "; it did not lead and 3 others run, so the program goes on"),
+        (False, {0, 1}, 3, ""), (False, set(), 3, ""), (True, {1, 2}, 3, ""),
+    ):
+        one = Told()
+        one.marks.is_still, one.marks.running, one.marks.size = is_still, running, size
+        one.life.note_end("was killed", one.marks.begun)
+        one.see("A", is_down=True)
+        kinds = [it[3] for it in one.marks.since(0) if it[4]]
+        expect(f"a death while {running} of {size} run, still {is_still}", one.texts() == [
+            f"was killed{more}"] and kinds == ["ended" if is_still else "gone"], one.texts(), kinds)
 
 
 class Made:

@@ -1,11 +1,12 @@
-"""What a person can do about a group while its program stands still: at once, and if that lasts
-longer than a minute."""
+"""What a person can do about a group while its program stands still: now, and if that lasts longer
+than a minute."""
 
-from .heading import few_of, losses_of, majority_of, runs
+from .heading import enough_of, few_of, losses_of, majority_of, runs
 from .sentences import listed, lower, nodes_named
 
-SUPERVISED = "A supervisor asks a node by itself within seconds. You can wait."
-PERHAPS = "If supervisors run, one of them asks a node within seconds. You can wait for that."
+SUPERVISED = "One of the nodes takes the lead by itself within seconds. You need do nothing."
+PERHAPS = ("If supervisors run, one of the nodes takes the lead by itself within seconds. You can "
+           "wait for that.")
 STOOD = "The program has stood still for a minute."
 GONE = ("All nodes have ended, and their records are not there any more: a demo removes them when "
         "it ends. This page has nothing more to show.")
@@ -16,16 +17,17 @@ HEARS = ("Otherwise nodes do not hear each other: look at the network between th
 
 
 def due_of(nodes, size, is_nobody, is_supervised=False, waiting=0, is_late=False,
-           are_gone=False):
+           are_gone=False, last=()):
     """What a person can do: a sentence, and the node that is best asked to lead, or None. It says
     what supervisors do as a fact where one is known to run. `is_late` says whether the program has
-    stood still for a minute, and `are_gone` whether there is no record any more."""
+    stood still for a minute, and `are_gone` whether there is no record any more. `last` has who was
+    lost last."""
     if are_gone:
         return {"text": GONE, "at": None}
     if not is_nobody or any(it.get("end") for it in nodes):
         return None
     keys = f"{waiting} key{'' if waiting == 1 else 's'} wait{'s' if waiting == 1 else ''}"
-    lost = losses_of(nodes)
+    lost = losses_of(nodes, last)
     if majority_of(nodes, size) is False:
         kept = f"What is typed is kept: {keys}." if waiting else "What is typed is kept until then."
         still = STOOD if is_late else "The program stands still."
@@ -33,14 +35,11 @@ def due_of(nodes, size, is_nobody, is_supervised=False, waiting=0, is_late=False
         more = [late_of(nodes, size)] if is_late else starts_of(nodes, size)
         return {"text": " ".join([*parts, *more]), "at": None}
     waits = f"{keys}." if waiting else "What is typed waits until one does."
-    best, expected = best_of(nodes), expected_of(nodes, size)
+    best = best_of(nodes)
     asked = SUPERVISED if is_supervised else PERHAPS
     if is_late:
         asked = f"{STOOD} {late_of(nodes, size)}"
-    elif best and expected is best:
-        asked = (f"The supervisor of node {best['node']} asks it to lead within seconds, or "
-                 "another one does so. You can wait.")
-    text = f"{lost}Nobody leads. {waits} {asked}"
+    text = f"{lost}{enough_of(nodes, size, last)}Nobody leads. {waits} {asked}"
     return {"text": text, "at": best["at"], "node": best["node"]} if best else {
         "text": text, "at": None}
 
@@ -68,7 +67,7 @@ def goes_on(least, count):
     """When the program continues."""
     run = "it runs" if count == 1 else "one of them runs" if least == 1 else (
         f"{least} of them run")
-    return f"Once {run}, a node is asked to lead, and the program continues."
+    return f"Once {run}, a node takes the lead by itself, and the program continues."
 
 
 def moved_again(nodes):
@@ -121,15 +120,6 @@ def best_of(nodes):
     able, turn = [it for it in nodes if it.get("can_lead")], turn_in(nodes)
     return max(able, default=None, key=lambda it: (
         ballot_in(it), it["bytes"] or 0, not it.get("is_new"), -turn(it)))
-
-
-def expected_of(nodes, size):
-    """The node that is asked by its supervisor, if all of them are seen and supervised: the next
-    one behind the last that has asked to lead, unless it has just begun. Or None."""
-    if len(nodes) < size or not all(it.get("supervised") for it in nodes):
-        return None
-    able = [it for it in nodes if it["state"] == "up" and not it["is_new"]]
-    return min(able, default=None, key=turn_in(nodes))
 
 
 def turn_in(nodes):

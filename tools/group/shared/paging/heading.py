@@ -1,6 +1,6 @@
 """The sentence above a page that says how its group is."""
 
-from .sentences import in_order, lower, nodes_named, upper
+from .sentences import lower, nodes_named, upper, who_was_lost
 
 RUNS = ("up", "leads")
 SHORTLY = ("The program waits until a node leads, usually a second or two. Go on typing: what "
@@ -47,33 +47,47 @@ def missing_of(nodes):
     return " and ".join(are(them, what) for what, them in found.items() if them)
 
 
-def losses_of(nodes):
-    """How the nodes were lost that do not run, the first one first, in sentences."""
-    down = [it for it in nodes if it["state"] in ("down", "stopped")]
+def losses_of(nodes, lost=()):
+    """How the nodes were lost that do not run, and those that `lost` has, each with its time, its
+    node and a verb; the first one first, in sentences."""
+    told = {it[1] for it in lost}
+    down = [it for it in nodes if it["state"] in ("down", "stopped") and it["node"] not in told]
     seen = [(it["loss"][0], it["node"], it["loss"][1]) for it in down if it.get("loss")]
+    seen += map(tuple, lost)
     rest = [it["node"] for it in down if not it.get("loss")]
-    parts = [in_order(seen)] if seen else []
+    parts = [who_was_lost(seen)] if seen else []
     if rest:
         parts.append(f"{nodes_named(rest)} {'does' if len(rest) == 1 else 'do'} not run")
     return "".join(f"{it}. " for it in parts)
 
 
-def heading_of(nodes, size, leader, is_nobody, is_soon=False):
+def enough_of(nodes, size, lost=()):
+    """That a majority runs, though nobody leads, in a sentence; or an empty text."""
+    up, least = len(runs(nodes)), size // 2 + 1
+    if size == 1 or not majority_of(nodes, size):
+        return ""
+    run = f"all {'run again' if lost else 'run'}" if up == size else f"{up} run"
+    return f"{least} of {size} nodes are needed, and {run}. "
+
+
+def heading_of(nodes, size, leader, is_nobody, is_soon=False, lost=()):
     """`leader` is the text of who leads, or None. `is_soon` says that a supervisor asks a node to
-    lead, and that the program has not stood still for long."""
+    lead, and that the program has not stood still for long. `lost` has who was lost last."""
     up, is_known = len(runs(nodes)), all(it["state"] != "unknown" for it in nodes)
     run = "run" if is_known and len(nodes) == size else "are known to run"
     ends = [it["end"] for it in nodes if it.get("end")]
     ended = f"{ends[0].replace('its', 'the')}, and reads no key any more" if ends else ""
     majority, missing = majority_of(nodes, size), missing_of(nodes)
+    is_seen = lost or any(it.get("loss") for it in nodes)
+    why = losses_of(nodes, lost) if is_seen and not ended else ""
     if majority is False:
-        who = f"{upper(missing)}. " if missing and up else ""
+        who = why or (f"{upper(missing)}. " if missing and up else "")
         return f"{who}{few_of(nodes, size)}: {ended or 'the program stands still'}"
     more = f"; {ended}" if ended else ""
     said = "a majority" if majority else "and whether a majority runs is unknown"
     run = f"{up} of {size} nodes {run}, {said}{f'; {missing}' if missing else ''}"
     if is_nobody and not ended:
-        return SHORTLY if is_soon else ASKED
+        return why + (SHORTLY if is_soon else ASKED)
     if is_nobody:
         return f"Nobody leads; {run}{more}"
     return f"{run}; {leader or 'who leads is unknown'}{more}"

@@ -2,7 +2,7 @@
 up again. It is seen by the node's process, and told as the node's log says it."""
 
 from .marks import LOST, now
-from .sentences import verb_of
+from .sentences import goes_on, verb_of
 
 # How long a log is waited for to say how a node has ended, and how far what is seen and what it
 # says may be apart, in milliseconds.
@@ -47,7 +47,10 @@ class Life:
 
     def tell(self, text, when):
         self.died, self.buried, self.loss = None, when, (when, verb_of(text))
-        self.marks.add(self.at, self.kind, text, when)
+        # By now more may be lost.
+        self.kind = LOST[0] if self.marks.is_still else self.kind
+        more = goes_on(*self.marks.others_of(self.at)) if self.kind == LOST[1] else ""
+        self.marks.add(self.at, self.kind, text + more, when)
 
     def rise(self, process):
         again = " again" if self.buried else ""

@@ -18,8 +18,13 @@ class Marks:
 
     def __init__(self):
         self.kept, self.count, self.begun = collections.deque(maxlen=MARKS), 0, now()
-        # Whether it is known that nobody leads.
-        self.is_still = False
+        # Whether it is known that nobody leads; and while one leads the lanes of the nodes that
+        # run, and how many nodes there are.
+        self.is_still, self.running, self.size = False, set(), 0
+
+    def others_of(self, lane):
+        """How many other nodes run while one leads, and how many nodes there are."""
+        return len(self.running - {lane}), self.size
 
     def add(self, lane, kind, text="", when=None):
         self.count += 1

@@ -1,22 +1,18 @@
 """What has happened since nodes were lost, in some sentences: once the program goes on without
-them, and once all nodes run again. Then the event is told: who was lost and which of them at once,
-for how long the program stood still, and what became of typed keys. The next loss begins a new
-event."""
+them, and once all nodes run again. Then the event is told: who was lost and which of them at the
+same time, for how long the program stood still, and what became of typed keys. The next loss begins
+a new event."""
 
 import collections
 
 from .heading import majority_of, missing_of, runs
 from .marks import LOST, now
-from .sentences import (
-    about, at_once, groups_at_once, in_order, losses_named, lower, nodes_named, upper, verb_of,
-)
+from .sentences import about, groups_of, lower, together, upper, verb_of, who_was_lost
+from .typed import Typed
 
 # How long it is waited for to know what became of the keys, and for the last loss to be over; in
-# milliseconds. With more losses than these they are counted.
-PATIENCE, SETTLED, MOST = 5000, 1500, 4
-UP = "and is up again"
-KEYS = {"lost": " Some typed keys are lost: a sentence names them.",
-        "kept": " No key that was typed here is lost."}
+# milliseconds.
+PATIENCE, SETTLED = 5000, 1500
 
 
 def is_loss(kind, text):
@@ -58,7 +54,7 @@ class Standing:
             need = f"{size // 2 + 1} of {size} nodes are needed and {up} ran"
             if idle - few < 500:
                 return f"{need}, so the program stood still for {about(idle)}."
-            return (f"{need}, and then a node had to be asked to lead: the program stood still for "
+            return (f"{need}, and then a node had to take the lead: the program stood still for "
                     f"{about(idle)} in all.")
         return "" if idle is None else f"Nobody led, so the program stood still for {about(idle)}."
 
@@ -69,10 +65,10 @@ class Recovery:
 
     def __init__(self, settled=SETTLED, clock=now):
         self.settled, self.clock = settled, clock
-        # How many marks were looked at, who led before the loss, and when it was looked last, with
-        # what was so then and how many nodes ran.
-        self.count, self.leader, self.looked = 0, None, (None, "goes", 0)
-        self.standing = Standing()
+        # How many marks were looked at; who led before what is not told yet, and before the event;
+        # and when it was looked last, with what was so then and how many nodes ran.
+        self.count, self.leader, self.first, self.looked = 0, None, None, (None, "goes", 0)
+        self.standing, self.typed = Standing(), Typed()
         self.begin()
 
     def begin(self):
@@ -81,25 +77,30 @@ class Recovery:
         self.lost, self.seen = [], 0
         # Who led since then, and those that were not up again: of them a death may be told twice.
         self.leaders, self.down = set(), set()
+        self.typed = self.typed.anew()
         self.tell_anew()
 
     def tell_anew(self):
         """What was lost so far is told. What was lost since then; when a node led again, and
         whether none did meanwhile."""
-        self.untold, self.back, self.has_stood = [], None, False
+        self.untold, self.back, self.has_stood, self.typed_anew = (
+            [], None, False, self.typed.anew())
 
     def begun(self):
         """When the first node was lost, or None."""
         return min((it[0] for it in self.lost), default=None)
 
-    def note(self, nodes, size, leader):
-        """Notes for how long nobody leads, also while a death is not told yet."""
+    def note(self, nodes, size, leader, count=0, waiting=0):
+        """Notes for how long nobody leads, also while a death is not told yet; and that `count`
+        keys were typed here, of which so many wait."""
         when, (before, *was) = self.clock(), self.looked
         words = {None: "unknown", False: "idle"}
         what = "few" if majority_of(nodes, size) is False else words.get(leader, "goes")
         self.looked = when, what, len(runs(nodes))
         self.standing.add(before or when, when, *was)
         self.has_stood = self.has_stood or leader is False
+        for it in (self.typed, self.typed_anew):
+            it.note(count, waiting, what in ("few", "idle"))
 
     def note_losses(self, marks, nodes):
         names, new = {it["at"]: it["node"] for it in nodes}, marks.since(self.count)
@@ -120,6 +121,7 @@ class Recovery:
                     mine[-1][2] = verb
             return
         self.down.add(at)
+        self.first = self.first if self.lost else self.leader
         self.leaders.add(self.leader)
         self.back, self.seen = None, self.clock()
         self.lost.append([when, node, verb])
@@ -127,8 +129,9 @@ class Recovery:
 
     def look(self, marks, nodes, size, leader, fate, has_ended=False):
         """`leader` is the number of the node that leads, False if it is known that none does, or
-        None. `fate` is what has become of typed keys since the first loss: they are `lost`, `kept`
-        or `unknown`, or there are `none`. What is to be said, and when that began; or None."""
+        None. `fate` is what has become of typed keys since the first loss: they are `lost`, `kept`,
+        `unknown` or `unseen`, or there are `none`. What is to be said, and when that began; or
+        None."""
         self.note_losses(marks, nodes)
         if not leader:
             self.back = None
@@ -136,6 +139,7 @@ class Recovery:
         if not self.lost:
             # A node leads, and nothing is to be told.
             self.leader, self.has_stood, self.standing = leader, False, Standing()
+            self.typed, self.typed_anew = self.typed.anew(), self.typed.anew()
             return None
         self.leaders.add(leader)
         self.back = self.back or self.clock()
@@ -143,11 +147,11 @@ class Recovery:
         if not self.is_due(fate, max(self.seen, self.back) if are_all else self.seen):
             return None
         if are_all:
-            since, said = self.begun(), self.whole(size, leader, has_ended)
+            since, said = self.begun(), self.whole(size, leader, has_ended, fate)
             self.leader = leader
             self.begin()
-            return since, said + KEYS.get(fate, "")
-        return self.part(nodes, leader, KEYS.get(fate, "")) if self.untold else None
+            return since, said
+        return self.part(nodes, leader, fate) if self.untold else None
 
     def is_due(self, fate, since):
         """Whether nothing has changed since then, and it is known what became of keys."""
@@ -155,7 +159,7 @@ class Recovery:
         is_known = fate != "unknown" or when - self.back >= PATIENCE
         return is_known and when - since >= self.settled
 
-    def part(self, nodes, leader, keys):
+    def part(self, nodes, leader, fate):
         """What has happened since it was told last, while nodes are missing."""
         since = min(it[0] for it in self.untold)
         after = f"after {about(self.back - since)}"
@@ -163,46 +167,44 @@ class Recovery:
         if leader != self.leader:
             then = f"{who} took over {after}"
         else:
-            then = f"{who} leads again {after}" if self.has_stood else f"{who} leads as before"
+            then = f"{who} led again {after}" if self.has_stood else f"{who} led as before"
         missing = missing_of(nodes)
         more = f" {upper(missing)}." if missing else ""
-        said = f"{lower(self.named(self.untold))}, and {then}.{keys}{more}"
+        keys = self.typed_anew.told(fate, self.has_stood)
+        said = f"{lower(who_was_lost(self.untold))}, and {then}.{keys}{more}"
         self.tell_anew()
         self.leader = leader
         return since, said
 
-    def named(self, lost):
-        """Who was lost, in order, or counted if that is too much."""
-        if len(groups_at_once(lost)) <= MOST:
-            return in_order(lost)
-        by_node = {}
-        for _, node, verb in lost:
-            by_node.setdefault(node, []).append(verb)
-        return losses_named(by_node)
-
-    def whole(self, size, leader, has_ended):
+    def whole(self, size, leader, has_ended, fate):
         """All of the event, once all nodes run."""
-        since, who = self.begun(), lower(self.named(self.lost))
+        since, who = self.begun(), lower(who_was_lost(self.lost))
         nodes = {it[1] for it in self.lost}
         told = self.standing.told(since, size)
+        keys = self.typed.told(fate, bool(told))
         is_known = self.standing.lasted(since, "unknown") is None and None not in self.leaders
         has_led = bool(nodes & self.leaders)
-        up = {1: f"Node {min(nodes)} is up again", 2: "Both are up again"}.get(
-            len(nodes), "All are up again")
-        leads = f"{'it' if nodes == {leader} else f'node {leader}'} leads"
+        up = {1: f"Node {min(nodes)} came up again", 2: "Both came up again"}.get(
+            len(nodes), "All came up again")
+        led = "led again" if leader == self.first else "took the lead" if self.first else "led"
+        led = f"{'it' if nodes == {leader} else f'node {leader}'} {led}"
         if has_ended:
-            return f"{who}. {up}, and {leads}."
+            return f"{who}. {up}, and {led}.{keys if fate == 'lost' else ''}"
         if has_led and is_known:
             told = told or "The program stood still for less than a second."
         if told or not is_known:
-            then = f"{up}, {leads}, and the program continues."
-            return " ".join(filter(None, [f"{who}.", told, then]))
+            then = f"{up}, {led}, and the program went on."
+            return " ".join(filter(None, [f"{who}.", told, then])) + keys
+        others = "the other two" if size == 3 else "enough others"
+        if len(self.lost) == 1:
+            return (f"{who}; it did not lead and {others} ran, so the program went on. It came up "
+                    f"again.{keys}")
         they = "It" if len(nodes) == 1 else "They"
-        still = f"{they} did not lead, so the program did not stand still."
-        return f"{who}, {UP}. {still}" if len(self.lost) == 1 else f"{who}. {still} {up}."
+        return (f"{who}. {they} did not lead and enough others ran, so the program went on. {up}."
+                f"{keys}")
 
     def lost_with(self, node):
         """A node that was lost, with those that were lost at the same moment, as a sentence without
         its full stop; or None."""
-        found = [it for it in groups_at_once(self.lost) if node in [one[1] for one in it]]
-        return at_once(found[-1]) if found else None
+        found = [it for it in groups_of(self.lost) if node in [one[1] for one in it]]
+        return together(found[-1]) if found else None

@@ -12,8 +12,10 @@ AGAIN = "; the node is started again"
 # What stands behind the verb of what is told of a death.
 REST = re.compile(r" \(| with | by | refused|[,;:]")
 SIGNAL = re.compile(r"ended by (\w+)")
-# Nodes that are lost within this time are lost at once, in milliseconds.
-AT_ONCE = 500
+# Nodes that are lost within this time are lost at the same time, in milliseconds.
+TOGETHER = 500
+# With more losses than these they are counted.
+MOST = 4
 REFUSED = re.compile(r"refused by (\d+\.(\d+)) ballot (\d+\.\d+)")
 
 
@@ -53,6 +55,16 @@ def death_of(text):
     else:
         text = f"has {text}"
     return text + (", and its supervisor starts it again" if is_again else "")
+
+
+def goes_on(others, size):
+    """What is told of the death of a node that did not lead, if so many others run while one leads:
+    nothing, if these are too few."""
+    if 2 * others <= size:
+        return ""
+    who = "two" if others == 2 else others
+    who = f"the other {who}" if others == size - 1 else f"{who} others"
+    return f"; it did not lead and {who} run, so the program goes on"
 
 
 def verb_of(text):
@@ -106,13 +118,13 @@ def losses_named(lost):
     return upper(listed(parts))
 
 
-def groups_at_once(lost):
+def groups_of(lost):
     """The losses in order, in groups that were at one moment. Each loss has its time, its node, and
     its verb."""
     groups = []
     for it in sorted(lost):
         last = groups[-1] if groups else []
-        is_near = last and it[0] - last[0][0] <= AT_ONCE
+        is_near = last and it[0] - last[0][0] <= TOGETHER
         if is_near and it[1] not in [one[1] for one in last]:
             last.append(it)
         else:
@@ -120,18 +132,30 @@ def groups_at_once(lost):
     return groups
 
 
-def at_once(group):
+def together(group):
     """Nodes that were lost at one moment, as a sentence without its full stop."""
     group = sorted(group, key=lambda it: it[1])
     numbers, verbs = [it[1] for it in group], {it[2] for it in group}
     if len(group) == 1:
         return f"{nodes_named(numbers)} {group[0][2]}"
     if len(verbs) == 1:
-        return f"{nodes_named(numbers)} {plural(*verbs, len(group))} at once"
+        return f"{nodes_named(numbers)} {plural(*verbs, len(group))} at the same time"
     every = "both" if len(group) == 2 else "all"
-    return f"{upper(listed(f'node {node} {verb}' for _, node, verb in group))}, {every} at once"
+    who = upper(listed(f"node {node} {verb}" for _, node, verb in group))
+    return f"{who}, {every} at the same time"
 
 
 def in_order(lost):
     """Who was lost and how, as a sentence without its full stop: the first one first."""
-    return upper(", then ".join(lower(at_once(it)) for it in groups_at_once(lost)))
+    return upper(", then ".join(lower(together(it)) for it in groups_of(lost)))
+
+
+def who_was_lost(lost):
+    """Who was lost, in order, or counted if that is too much; as a sentence without its full
+    stop."""
+    if len(groups_of(lost)) <= MOST:
+        return in_order(lost)
+    by_node = {}
+    for _, node, verb in lost:
+        by_node.setdefault(node, []).append(verb)
+    return losses_named(by_node)

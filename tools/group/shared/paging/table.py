@@ -16,7 +16,7 @@ from .clients import Clients
 from .counts import Counted
 from .course import Course
 from .due import due_of
-from .heading import SHORTLY, flow_of, heading_of, majority_of, until_of, with_reasons
+from .heading import RUNS, SHORTLY, flow_of, heading_of, majority_of, until_of, with_reasons
 from .heard import STILL, HeardTerminal, Readings
 from .lanes import Lane
 from .marks import Marks, now
@@ -223,10 +223,11 @@ class Table:
         """Brings what is shown of the nodes up to date."""
         session, self.shot = self.session, time.monotonic()
         leader, count = self.leader(), self.marks.count
-        self.marks.is_still = leader is False
+        self.note_running(leader)
         for it in self.lanes:
             fresh = session.tally.take_fresh(it.number()) if session.tally else []
             it.look(leader, fresh)
+        self.recovery.note_losses(self.marks, self.nodes())
         group = self.group_now(leader)
         if group != self.group or self.marks.count != count:
             self.group = group
@@ -235,11 +236,18 @@ class Table:
             self.note_sentence(*it)
         self.tell_course(leader and leader.node)
 
+    def note_running(self, leader):
+        """Notes for deaths that are told now whether the program goes on, and which nodes run."""
+        running = {it.at for it in self.lanes if it.state(None) in RUNS}
+        running |= {("other", it["node"]) for it in self.others if it["state"] in RUNS}
+        self.marks.is_still, self.marks.running = leader is False, running if leader else set()
+        self.marks.size = self.size(len(self.lanes) + len(self.others))
+
     def tell_course(self, leader):
         """Says what has become of the group, once the deaths before that are told; and what has
         happened in all, once the program goes on after a loss."""
         nodes, size = self.group["nodes"], self.group["size"]
-        self.recovery.note(nodes, size, leader)
+        self.recovery.note(nodes, size, leader, self.session.count, self.group["waiting"])
         if any(it.life.died for it in self.lanes):
             return
         events, self.events = self.events, []
@@ -255,6 +263,8 @@ class Table:
     def fate_of_keys(self):
         """What has become of keys that were typed here since a node was lost, in a word."""
         session = self.session
+        if not self.has_seat:
+            return "unseen"
         if self.is_lossy or not session.count:
             return "lost" if self.is_lossy else "none"
         is_open = session.waiting() or session.losses.left or session.blind or not session.tally
@@ -279,6 +289,10 @@ class Table:
         if leader is None and view:
             return view.leader() or (False if view.leads_nobody() else None)
         return leader
+
+    def nodes(self):
+        """The lanes with the numbers of their nodes."""
+        return [{"at": it.at, "node": it.number()} for it in self.lanes]
 
     def size(self, seen):
         if self.session.tally:
@@ -311,14 +325,14 @@ class Table:
         size, waiting = self.size(len(nodes)), session.waiting()
         nodes, is_nobody = with_reasons(nodes, size), leader is False
         flow = flow_of(nodes, size, is_nobody)
-        self.events += self.course.look(nodes, size, leader, flow == "ended")
+        self.events += self.course.look(nodes, size, leader, flow == "ended", self.recovery.untold)
         due = due_of(nodes, size, is_nobody, self.is_supervised(), waiting, self.course.is_late(),
-                     self.are_gone(nodes))
+                     self.are_gone(nodes), self.recovery.untold)
         leads = f"node {leader.node} leads, ballot {text_of_ballot(leader)}" if leader else None
         is_soon = self.is_supervised() and not self.course.is_late()
-        heading = heading_of(nodes, size, leads, is_nobody, is_soon)
+        heading = heading_of(nodes, size, leads, is_nobody, is_soon, self.recovery.untold)
         return {
-            "nodes": nodes, "size": size, "heading": heading, "is_soon": heading == SHORTLY,
+            "nodes": nodes, "size": size, "heading": heading, "is_soon": SHORTLY in heading,
             "is_led": bool(leader), "due": due, "until": until_of(nodes, size, flow),
             "flow": "waits" if flow == "goes" and self.is_stuck(waiting) else flow,
             "session": self.view.session if self.view else session.number,

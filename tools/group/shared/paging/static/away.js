@@ -6,11 +6,12 @@ import { dropAll, hear, list, say, serverNow, setAhead } from "./said.js";
 // The server says something each second. After how long nothing is heard, or how late what is heard
 // comes, what is shown is old, in milliseconds.
 const OLD = 4000, ASLEEP = 1500;
-const LOST = "The connection to the page's server was lost.";
+const LOST = "This page lost its connection.";
 const BUTTONS = "#nodes button, #due button, #touch button";
 let heard = Date.now(), ticked = heard, shown = null, isOld = false, isEnded = false, reason = "";
-let command = "", refused = 0, best = null, late = 0, told = "", line = null;
-let unsent = () => 0, restore = () => {};
+let command = "", mine = "type", refused = 0, best = null, late = 0, told = "", line = null;
+// How many keys are not known to have come; and what the cards show now, and what they did then.
+let unsure = () => 0, restore = () => {}, grey = () => {};
 
 export const isAway = () => isOld;
 // The moment that is shown.
@@ -46,8 +47,8 @@ export function noteTime([time, steady]) {
   show();
 }
 
-export function setCommand(it) {
-  command = it || "";
+export function setAbout(role, again) {
+  [mine, command] = [role, again || ""];
 }
 
 // The server has ended, as it says itself; or it refuses this page, and says why.
@@ -73,6 +74,7 @@ function lose() {
   isOld = true;
   dropAll();
   line = list(LOST, "bad", shown ?? serverNow());
+  if (shown !== null) grey(clock(shown));
 }
 
 function look() {
@@ -86,22 +88,41 @@ function look() {
 }
 
 // What to do if the server has ended.
-function again(begin) {
-  if (!command) return [`${begin} ask whoever gave you its address.`];
-  return [`${begin} start it again by `, make("code", "", command),
-    " and open the address that it prints."];
+function again() {
+  if (!command) {
+    return ["ask whoever gave you its address to start the page again, not the program."];
+  }
+  return ["whoever started this page starts it again, not the program, by ",
+    make("code", "", command), "; then open the address that it prints."];
+}
+
+// That the connection is lost, and what is so in spite of that.
+function lost() {
+  if (shown === null) return "This page is not connected.";
+  const said = [`This page lost its connection at ${clock(shown)}.`,
+    "No node was lost by that, and the session may go on. What was answered is safe."];
+  if (mine === "type") said.push("Keys that are typed now are not taken.");
+  return said.join(" ");
 }
 
 function sentence() {
-  const since = shown === null ? "" : ` since ${clock(shown)}. Keys that are typed now are not ` +
-    "taken. The nodes may still run: what is shown here is from then";
-  if (isEnded) return again(`Not connected${since}. The page's server has ended:`);
-  if (reason) return [`Not connected${since}. ${reason}`];
+  if (isEnded) return [`${lost()} The page's server has ended: `, ...again()];
+  if (reason) return [`${lost()} ${reason}`];
   if (isOld) {
-    return again(`Not connected${since}. This page connects again by itself once its server ` +
-      "answers. If the server has ended,");
+    return [`${lost()} The page connects again by itself once its server answers. If it has not ` +
+      "done so within a minute, ", ...again()];
   }
   return ["The link to the page's server is slow: what is shown here is some seconds old."];
+}
+
+// What is known of keys that were typed before.
+function before() {
+  const count = unsure(), [was, is, it] = count === 1 ? ["was", "it is", "it"]
+    : ["were", "they are", "them"];
+  if (mine !== "type" || shown === null) return [];
+  if (!count) return ["Keys typed in the last moment before that may not have arrived."];
+  return [`${many(count, "key")} typed before that ${was} not confirmed, and may not have ` +
+    `arrived: look whether ${is} shown before you type ${it} again.`];
 }
 
 function show() {
@@ -112,23 +133,21 @@ function show() {
   const parts = sentence(), plain = parts.map((it) => it.textContent ?? it).join("");
   if (plain !== told) text.replaceChildren(...parts);
   told = plain;
-  const waits = isOld ? unsent() : 0, lines = [];
-  if (waits) lines.push(`${many(waits, "key")} typed before: sent once it is connected.`);
+  const lines = isOld ? before() : [];
   if (isOld && refused) lines.push(`${many(refused, "key")} typed since then: refused.`);
   $("refused").textContent = lines.join(" ");
   if (!isOld) return;
   $("due").hidden = true;
   for (const it of document.querySelectorAll(BUTTONS)) it.disabled = true;
-  $("heading").textContent = `Not connected${shown === null ? "" : ` since ${clock(shown)}`}`;
-  $("heading").className = "bad";
+  $("heading").textContent = "";
   $("role").textContent = "not connected";
   $("role").className = "role off";
   $("dot").className = "dot off";
 }
 
 // A page that comes back to the front has some seconds to hear of its server.
-export function beginAway(count, showAgain) {
-  [unsent, restore] = [count, showAgain];
+export function beginAway(count, showAgain, showOld) {
+  [unsure, restore, grey] = [count, showAgain, showOld];
   setInterval(look, 500);
   document.addEventListener("visibilitychange", () => (heard = Date.now()));
 }

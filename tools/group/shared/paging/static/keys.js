@@ -8,7 +8,7 @@ import { followCursor } from "./screen.js";
 
 const MOST = 1000, PASTED = 16000, TWICE = 3000, PATIENT = 4;
 let queue = "", client = "", number = 0, isSending = false, role = "watch", isLf = false, broke = 0;
-let isEnded = false, isToldEnd = false, flying = 0;
+let isEnded = false, isToldEnd = false, flying = 0, given = 0;
 
 const KEYS = {
   escape: "\x1b", tab: "\t", back: "\x7f", up: "\x1b[A", down: "\x1b[B", right: "\x1b[C",
@@ -27,11 +27,11 @@ export function knownAs(hello) {
   [role, isLf] = [hello.role, hello.lf];
   if (client === hello.client) return;
   if (client && isSending) giveUp("The page's server was started anew.");
-  [client, number] = [hello.client, 0];
+  [client, number, given] = [hello.client, 0, 0];
 }
 export const myName = () => client;
 // How many keys are typed and not known to have come.
-export const unsent = () => queue.length + flying;
+export const unsent = () => given || queue.length + flying;
 
 // The server says that it ends.
 export function serverEnds() {
@@ -40,6 +40,7 @@ export function serverEnds() {
 }
 
 function giveUp(why) {
+  given = queue.length + flying;
   queue = "";
   say(`${why} Look whether what you typed last is shown before you type it again.`, "bad");
 }
@@ -141,7 +142,7 @@ function putIn(it) {
 function pasted(it) {
   it.preventDefault();
   const text = it.clipboardData.getData("text").replace(/\r\n?|\n/g, enter());
-  if (text.length > PASTED) return say("At most 16,000 characters are pasted at once.", "bad");
+  if (text.length > PASTED) return say("At most 16,000 characters are pasted at one time.", "bad");
   if (text) type(text);
 }
 

@@ -6,6 +6,8 @@ export const SECONDS = 60;
 const STRIP = 14, WORD = 5.6, KEPT = 400;
 // Crosses and starts that are as near as this to the first cross are one cross, with a count.
 const NEAR = 13;
+// How far words stand from the middle of a cross at least, and from their moment at most.
+const CROSS = 12, FAR = 40;
 const FLAGS = {
   campaign: (it) => `asks to lead ${it}`, asked: () => "asked", leads: (it) => `leads ${it}`,
 };
@@ -60,21 +62,38 @@ export class Lane {
 
   signs() {
     const parts = [];
-    let flagEnd = -99;
+    this.words = [];
+    this.crosses = this.marks.filter((it) => it[1] === "crash").map((it) => this.x(it[0]));
     this.cross = { x: -999, count: 0 };
     for (const [when, kind, text] of this.marks) {
       const x = this.x(when);
       if (x < -200) continue;
       const sign = this.isCrowded(kind, x) ? null : this.sign(kind, x);
       if (sign) parts.push(sign);
-      const word = FLAGS[kind]?.(text), wide = word && word.length * WORD;
-      const begin = word && Math.max(Math.min(x, this.right - wide), flagEnd);
-      // Words for which there is no room near their moment are left out.
-      if (!word || begin < 0 || begin - x > 40 || begin + wide > this.right + 4) continue;
-      parts.push(draw("text", { x: begin, y: this.y - 8, class: `flag ${kind}` }, word));
-      flagEnd = begin + wide + 6;
+      const word = FLAGS[kind]?.(text), begin = word && this.place(x, word.length * WORD);
+      if (word && begin !== null) {
+        parts.push(draw("text", { x: begin, y: this.y - 8, class: `flag ${kind}` }, word));
+      }
     }
     return parts;
+  }
+
+  // Where words of this width begin near their moment, so that they stand over no cross and no
+  // other words. If there is no such place they are left out.
+  place(x, wide) {
+    const behind = this.words.map(([, end]) => end + 6);
+    const before = this.crosses.map((it) => it - CROSS - wide);
+    const starts = [x, ...behind.filter((it) => it > x), this.right - wide, ...before];
+    const begin = starts.find((it) => Math.abs(it - x) <= FAR && this.isFree(it, it + wide));
+    if (begin === undefined) return null;
+    this.words.push([begin, begin + wide]);
+    return begin;
+  }
+
+  isFree(begin, end) {
+    return begin >= 0 && end <= this.right + 4
+      && !this.crosses.some((it) => it > begin - CROSS && it < end + CROSS)
+      && !this.words.some(([from, to]) => from < end + 6 && to > begin - 6);
   }
 
   // Whether a sign is shown by a cross before it: the count of that one grows.

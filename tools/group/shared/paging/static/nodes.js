@@ -10,6 +10,9 @@ import { followCursor } from "./screen.js";
 const FEW = 5;
 const STATES = { up: "runs", leads: "leads", down: "does not run", stopped: "is stopped",
   unknown: "is unknown" };
+// The same of a moment that is over.
+const THEN = { up: "ran", follows: "followed", leads: "led", down: "did not run",
+  stopped: "was stopped", unknown: "was unknown" };
 const ENDED = "the program has ended";
 // The cards by the numbers of the lanes, and the group as it was told last.
 let cards = new Map(), group = null, role = "watch", heardDue = null;
@@ -26,7 +29,7 @@ async function act(path, at) {
 
 function newCard(at) {
   const it = { box: make("article", "node"), head: make("div", "head"), name: make("h2"),
-    state: make("span", "state"), here: make("span", "here", "session"), few: make("span", "few"),
+    state: make("span", "state"), here: make("span", "here"), few: make("span", "few"),
     facts: make("div", "facts"), lead: make("button", "", "Ask to lead"),
     go: make("button", "", "Type here"), svg: draw("svg", { role: "img" }) };
   it.lane = new Lane(it.svg);
@@ -62,21 +65,28 @@ function fact(name, value) {
   return it;
 }
 
+// What a node does that runs and does not lead.
+const wordOf = () => (group.is_led ? "follows" : group.until ? "runs, no leader" : STATES.up);
+
 function showCard(node) {
   const it = cardOf(node.at), name = `node ${node.node}`;
   const runs = ["up", "leads"].includes(node.state);
   const lag = runs && node.lag ? `, behind by ${many(node.lag, "byte")}` : "";
-  const word = node.state === "up" && group.is_led ? "follows" : STATES[node.state];
+  const word = node.state === "up" ? wordOf() : STATES[node.state];
   it.box.className = `node ${node.state}`;
   it.box.setAttribute("aria-label", `${name} ${word}`);
   it.name.textContent = name;
   it.state.textContent = word + lag;
   it.state.title = node.pid ? `process ${node.pid}` : "";
-  it.here.hidden = node.at !== group.seat;
+  const isHere = node.at === group.seat, had = document.activeElement === it.go;
+  it.here.hidden = !isHere;
+  it.here.textContent = role === "type" ? "you type here" : "session";
   it.few.textContent = node.fault || `${node.promised || "-"} · ${many(node.votes ?? 0, "vote")}`;
-  it.lead.hidden = it.go.hidden = role !== "type";
+  it.lead.hidden = role !== "type";
+  it.go.hidden = role !== "type" || isHere;
+  if (had && isHere) focusKeys();
   it.lead.disabled = !node.can_lead;
-  it.go.disabled = !node.can_type || node.at === group.seat;
+  it.go.disabled = !node.can_type;
   const why = node.why_not ? `, which is not possible now: ${node.why_not}` : "";
   it.lead.title = node.why_not ? `Not possible now: ${node.why_not}` : "";
   it.lead.setAttribute("aria-label", `Ask ${name} to lead${why}`);
@@ -128,6 +138,19 @@ export function forRole(text) {
 }
 
 export const showAgain = () => group && showGroup(group);
+export const waiting = () => group?.waiting ?? 0;
+
+// Nothing is heard any more: the cards are of the time at which something was.
+export function showOld(time) {
+  for (const node of group?.nodes ?? []) {
+    const it = cardOf(node.at), isFollowing = node.state === "up" && group.is_led;
+    const word = `${THEN[isFollowing ? "follows" : node.state]}, as of ${time}`;
+    it.box.className = "node old";
+    it.box.setAttribute("aria-label", `node ${node.node} ${word}`);
+    it.state.textContent = word;
+    it.here.textContent = "session";
+  }
+}
 
 // How many keys wait, or what would become of one.
 function waits() {
@@ -191,9 +214,10 @@ function hearDue() {
 
 // F6: to the first thing that can be done about the nodes.
 export function leave() {
-  const due = $("due").lastElementChild, first = document.querySelector("#nodes button:enabled");
+  const due = $("due").lastElementChild;
+  const first = document.querySelector("#nodes button:enabled:not([hidden])");
   const isDue = !$("due").hidden && !due.hidden;
-  (isDue ? due : first && !first.hidden ? first : $("said")).focus();
+  (isDue ? due : first ?? $("said")).focus();
 }
 
 let isDue = false;

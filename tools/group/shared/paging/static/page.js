@@ -1,13 +1,14 @@
 // The page of a group that runs: it shows its token, takes the stream of events, and hands each
 // event on.
 import { $, beginTheme, clock } from "./look.js";
-import { beginAway, noteHeard, noteTime, setCommand, stop } from "./away.js";
+import { beginAway, noteHeard, noteTime, setAbout, stop } from "./away.js";
 import { FRESH, beginSaid, clearSaid, dropAsked, dropOver, hear, list, serverNow, setAhead, show }
   from "./said.js";
 import { beginScreen, clearScreen, showScreen } from "./screen.js";
 import { enter } from "./enter.js";
 import { beginKeys, focusKeys, knownAs, myName, serverEnds, unsent } from "./keys.js";
-import { beginNodes, clearLanes, forRole, leave, note, showAgain, showGroup } from "./nodes.js";
+import { beginNodes, clearLanes, forRole, leave, note, showAgain, showGroup, showOld, waiting }
+  from "./nodes.js";
 
 const SILENT = 15000, LONGEST = 5000;
 let stream = null, broken = 0, later = 0, tried = Date.now(), name = "";
@@ -38,7 +39,7 @@ function greet(hello) {
   isBack = name !== "" && hello.client === name;
   if (!isBack) last = { read: 0, mark: 0, said: 0 };
   knownAs(hello);
-  setCommand(hello.again);
+  setAbout(hello.role, hello.again);
   $("name").textContent = document.title = hello.name;
   $("role").textContent = hello.role === "type" ? "you type" : "you watch";
   $("role").className = `role ${hello.role}`;
@@ -64,9 +65,9 @@ function noteMarks([time, marks]) {
 
 // What the banner says too is heard there.
 function noteSaid([number, when, kind, said, since]) {
-  const text = (since ? `${clock(since)}: ` : "") + forRole(said);
-  show(text, kind, when);
-  if (isNews("said", number, when) && !["still", "late"].includes(kind)) hear(text);
+  const text = forRole(said), timed = (since ? `${clock(since)}: ` : "") + text;
+  show(text, kind, when, timed);
+  if (isNews("said", number, when) && !["still", "late"].includes(kind)) hear(timed);
 }
 
 function noteRead(lines) {
@@ -130,7 +131,7 @@ async function begin() {
   beginSaid();
   beginKeys();
   beginNodes();
-  beginAway(unsent, showAgain);
+  beginAway(() => unsent() + waiting(), showAgain, showOld);
   const had = location.hash !== "";
   for (;;) {
     try {

@@ -7,7 +7,7 @@ export const FRESH = 15000;
 // What the banner says too is in the list alone.
 const LISTED = ["still", "again", "late"];
 let noteEnds = 0, led = 0, ahead = 0, isFollowing = true, shape = "";
-// When nodes were lost last, and the summary of an event with the time at which it was said.
+// When nodes were lost last, and the summary of an event with the time at which it goes.
 let lost = 0, over = null;
 
 // By how much the server's clock is ahead of this one's.
@@ -27,18 +27,19 @@ export function say(text, kind = "") {
   hear(text);
 }
 
-export function show(text, kind, when) {
+// In the list a line has its own time; `timed` is the text as it stands elsewhere.
+export function show(text, kind, when, timed = text) {
   list(text, kind, when);
   if (LISTED.includes(kind)) return;
   if (serverNow() - when > FRESH || kind === "asked" && when <= led) return;
   if (kind === "over" && when < lost) return;
-  if (kind === "over") over = text;
-  note(text, kind);
+  if (kind === "over") over = [timed, Date.now() + FRESH];
+  note(timed, kind);
 }
 
-// What is said below the console. The summary of an event stays there until the next event, or
-// until a person closes it; all else stays for some seconds, and then the summary is there again.
-function note(text, kind) {
+// What is said below the console, for some seconds, or until a person closes it. The summary of an
+// event is there again behind what was said meanwhile, if its time is not over.
+function note(text, kind, lasts = kind === "note" ? 5000 : FRESH) {
   const box = $("note"), close = make("button", "", "×");
   close.type = "button";
   close.setAttribute("aria-label", "Close");
@@ -54,14 +55,16 @@ function note(text, kind) {
   box.className = kind;
   box.hidden = false;
   clearTimeout(noteEnds);
-  if (kind !== "over") noteEnds = setTimeout(drop, kind === "note" ? 5000 : FRESH);
+  noteEnds = setTimeout(drop, lasts);
 }
 
 // Takes away what is said there, but not a summary that was there before.
 function drop() {
   clearTimeout(noteEnds);
   $("note").hidden = true;
-  if (over !== null) note(over, "over");
+  const left = over === null ? 0 : over[1] - Date.now();
+  if (left > 0) note(over[0], "over", left);
+  else over = null;
 }
 
 // What was said before the connection was lost is not of now.
