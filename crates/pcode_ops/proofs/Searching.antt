@@ -1,11 +1,12 @@
 -- The search: what is marked is reached, and at its end what is reached is marked.
-use Rattle.std.proofs.Common.{◌≡◌, ℕ, ◌+◌, ◌<◌, ◌≤◌, inl, inr, List, length, Some, Ok, Err, slice_get, refl, ◌∙◌, arith, get_or}
+use Rattle.std.proofs.Common.{◌≡◌, ℕ, ◌+◌, ◌<◌, ◌≤◌, inl, inr, List, length, Some, Ok, Err, slice_get, refl, sym, ◌∙◌, arith, get_or}
+use Rattle.std.proofs.lemmas.Bool.{cases_lt}
 use Rattle.std.proofs.lemmas.Option.{slice_get_within, slice_get-get_or}
 use Rattle.pcode_ops.specs.declared.fault.OpFault.{OpFault}
 use Rattle.pcode_file.specs.declared.file.Proc.{Proc}
 use Rattle.pcode_file.specs.Parts.{Parts}
 use Rattle.pcode_ops.specs.declared.loading.Onward.{Onward}
-use Rattle.pcode_ops.specs.Loading.{look, LeadsTo}
+use Rattle.pcode_ops.specs.Loading.{look, IsFine, LeadsTo}
 use Rattle.pcode_ops.specs.Reach.{Reach, entered, exited, followed}
 use Rattle.pcode_ops.specs.Walks.{Marks, IsMarked, IsListing, Adds, IsStarted, IsSearch}
 
@@ -42,6 +43,29 @@ search_goes_on file done m n at o s l e f a = record {
   within = omega (arith, slice_get_within m.found done at e, a.longer);
   closed = λ k i j p lt g h to. grind (arith, a.kept j, a.added j, a.front k, s.closed k i j p, slice_get_within m.found done at e);
 }
+
+-- what was looked at so far has no fault
+abbrev pub AreFine : Parts → ℕ → Marks → Type 0
+AreFine file done m = (k i : ℕ) → k < done → slice_get m.found k ≡ Some i → IsFine file i
+
+-- and so has one more
+pub fine_goes_on : (file : Parts) (done : ℕ) (m n : Marks) (at : ℕ) (o : Onward) → AreFine file done m
+    → slice_get m.found done ≡ Some at → look file at ≡ Ok o → Adds (LeadsTo file.segment o) m n → AreFine file (done + 1) n
+fine_goes_on file done m n at o fine e f a k i lt is fault =
+    let inside = slice_get_within m.found done at e in
+    let old : slice_get m.found k ≡ Some i = sym (a.front k (omega (arith, lt, inside))) ∙ is in
+    elim (cases_lt k done) [
+      | inl below ↦ fine k i below old fault
+      | inr last ↦ λ bad. grind (arith, e, f, old, last, bad)
+    ]
+
+-- if all that was found was looked at, what is marked has no fault
+pub marked_fine : (file : Parts) (done : ℕ) (m : Marks) → AreFine file done m → IsListing m → length m.found ≤ done
+    → (i : ℕ) → IsMarked m i → IsFine file i
+marked_fine file done m fine l le i marked =
+    let place = l.listed i marked in
+    let inside = slice_get_within m.found place.0 i place.1 in
+    fine place.0 i (omega (arith, inside)) place.1
 
 -- one more offset was looked at, and is faulty
 pub search_passes : (file : Parts) (done : ℕ) (m : Marks) (at : ℕ) (f : OpFault) → IsSearch file done m → slice_get m.found done ≡ Some at

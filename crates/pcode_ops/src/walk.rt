@@ -1,6 +1,6 @@
 //! The search for reached offsets.
-ghost use Rattle.std.specs.Prelude.{◌≡◌, ◌+◌, ◌*◌, ◌<◌, ◌≤◌, ◌↔◌, length, slice_get, Some, IsTrue, IfOk, IfSome};
-ghost use Rattle.pcode_ops.specs.Loading.{IsCaseEntry, LeadsTo};
+ghost use Rattle.std.specs.Prelude.{◌≡◌, ℕ, ◌+◌, ◌*◌, ◌<◌, ◌≤◌, ◌↔◌, length, false, slice_get, Some, IsTrue, IfOk, IfSome};
+ghost use Rattle.pcode_ops.specs.Loading.{IsCaseEntry, IsFine, LeadsTo};
 ghost use Rattle.pcode_ops.specs.Walks.{Marks, IsMarked, IsListing, IsWalkOf, IsWithin, Adds, blank_marks, IsStarted, MarksReached};
 
 use crate::decoding::get_word;
@@ -125,32 +125,37 @@ fn mark_starts(file: &CodeFile, walk: &mut Walk)
     }
 }
 
-/// Looks at each offset that it finds, until it finds no more.
-fn search_on(file: &CodeFile, walk: &mut Walk)
+/// Looks at each offset that it finds, until it finds no more. Returns true if one has a fault.
+fn search_on(file: &CodeFile, walk: &mut Walk) -> bool
     requires { IsStarted file.now (length file.now.procs) walk.old }
     ensures exact { MarksReached file.now walk.new }
     ensures size { IsWalkOf file.now walk.new }
+    ensures fine { result ≡ false → (i : ℕ) → IsMarked walk.new i → IsFine file.now i }
 {
     let mut near = 1;
     let mut done = 0;
+    let mut is_faulty = false;
     while done < walk.len() {
         let at = walk.get(done);
         match look(file, &mut near, at) {
             Ok(onward) => mark_onward(file, walk, onward),
-            Err(_) => {}
+            Err(_) => is_faulty = true,
         }
         done += 1;
     }
+    is_faulty
 }
 
-/// Returns the reached offsets, found by a walk that has found nothing yet.
-pub(crate) fn walk_over(blank: Walk, file: &CodeFile) -> Walk
+/// Returns the reached offsets, found by a walk that has found nothing yet, and whether one of them
+/// has a fault.
+pub(crate) fn walk_over(blank: Walk, file: &CodeFile) -> (Walk, bool)
     requires { blank ≡ blank_marks (length file.now.segment) }
-    ensures exact { MarksReached file.now result }
-    ensures size { IsWalkOf file.now result }
+    ensures exact { MarksReached file.now result.0 }
+    ensures size { IsWalkOf file.now result.0 }
+    ensures fine { result.1 ≡ false → (i : ℕ) → IsMarked result.0 i → IsFine file.now i }
 {
     let mut walk = blank;
     mark_starts(file, &mut walk);
-    search_on(file, &mut walk);
-    walk
+    let is_faulty = search_on(file, &mut walk);
+    (walk, is_faulty)
 }
