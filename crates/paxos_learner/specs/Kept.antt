@@ -22,18 +22,22 @@ pub record IsInputOf (learned : FinMap nat_cmp Value) (e : Entered) : Type 0 whe
       → MOST_CHARACTERS * (s + 1) ≤ e.key_room + MOST_CHARACTERS * length e.ends
   pub small : (s : ℕ) → IsTrue (is_some (get learned s)) → s < PLACES
 
--- These keys are those of the learned values.
-pub record AreKnown (learned : FinMap nat_cmp Value) (keys : List Key) : Type 0 where
+-- These are keys of learned values, and all those from the front on: the input does not have them.
+-- Each learned place is below `top`.
+-- Allows: also keys of places below the front.
+pub record AreAbove (learned : FinMap nat_cmp Value) (front top : ℕ) (keys : List Key)
+    : Type 0 where
   pub stand : (k : Key) → Contains keys k → StandsIn learned k
-  pub all : (s : ℕ) (v : Value) → get learned s ≡ Some v → (k : Key) → Contains (keys_of v) k
-      → Contains keys k
+  pub all : (s : ℕ) (v : Value) → get learned s ≡ Some v → front ≤ s → (k : Key)
+      → Contains (keys_of v) k → Contains keys k
+  pub below : (s : ℕ) → IsTrue (is_some (get learned s)) → s < top
 
--- The invariant of a learner. The input goes up to the front, which is not learned, and the known
--- keys are those of all learned values.
-pub record IsKept (size : ℕ) (learned : FinMap nat_cmp Value) (e : Entered)
-    (known : List Key) : Type 0 where
+-- The invariant of a learner. The input goes up to the front, which is not learned, and the keys of
+-- the learned values above it are kept beside it.
+pub record IsKept (size : ℕ) (learned : FinMap nat_cmp Value) (e : Entered) (top : ℕ)
+    (above : List Key) : Type 0 where
   pub size_small : size ≤ MOST_NODES
   pub input : IsInputOf learned e
   pub here : get learned (length e.ends) ≡ None
   pub window : AreInWindow learned
-  pub keys : AreKnown learned known
+  pub keys : AreAbove learned (length e.ends) top above

@@ -1,12 +1,12 @@
 //! A learner.
-ghost use Rattle.std.specs.Prelude.{◌≡◌, ◌≢◌, ◌↔◌, ◌+◌, ◌<◌, ◌≤◌, ◌++◌, IsSome, IsTrue, IfOk, None, OnOk, OnErr, Contains, length, min, slice_get};
+ghost use Rattle.std.specs.Prelude.{◌≡◌, ◌≢◌, ◌↔◌, ◌+◌, ◌<◌, ◌≤◌, [], ◌++◌, IsSome, IsTrue, IfOk, None, OnOk, OnErr, Contains, length, min, slice_get};
 ghost use Rattle.std.specs.FinMap.{get};
-ghost use Rattle.paxos_learner.specs.Entered.{key_of};
+ghost use Rattle.paxos_learner.specs.Entered.{key_of, keys_with};
 ghost use Rattle.paxos_learner.specs.Learner.{AreInWindow, IsFront, front_of, is_open, learn, new_learner, heard_accepted, heard_tell};
 ghost use Rattle.paxos_learner.specs.Input.{StandsIn, front_values, input_of, keys_in_order, learned_input, values_below};
 ghost use Rattle.paxos_learner.specs.Kept.{IsInputOf};
 ghost use Rattle.paxos_learner.specs.declared.heard.Heard.TheVariants.{Passed};
-ghost use Rattle.paxos_msg.specs.declared.limits.TheConstants.{LAST_PLACE, MOST_NODES, PLACES};
+ghost use Rattle.paxos_msg.specs.declared.limits.TheConstants.{LAST_PLACE, MOST_CHARACTERS, MOST_NODES, PLACES};
 ghost use Rattle.paxos_learner.specs.declared.learner.TheConstants.{WINDOW};
 
 use crate::heard::{Heard, LearnerFault};
@@ -26,9 +26,9 @@ pub const WINDOW: u32 = 1_024;
 /// Learns the value of each place, 0 to 65,535, in a group of `size` nodes, from the messages of
 /// its nodes.
 ///
-/// A call that only reads, and a message about one place, take a search. A learned place takes one
-/// more for each of its keys, at most 32, and for each key of the places by which the front then
-/// rises. No call goes over all places.
+/// A call that only reads, and a message about one place, take a search, and one for a key two. A
+/// learned place takes one more for each of its keys, at most 32, if it is above the front, and for
+/// each key of the places by which the front then rises. No call goes over all places.
 pub struct Learner {
     size: u8,
     learned: PlaceMap<Value>,
@@ -36,8 +36,11 @@ pub struct Learner {
     tallies: PlaceMap<Tally>,
     // The input of the places below the front.
     input: Input,
-    // The keys of the learned values, also above a hole.
-    known: KeySet,
+    // The keys of the learned values above the front, which the input does not have yet. There may
+    // be others, until no learned place is above it.
+    above: KeySet,
+    // One more than the greatest learned place.
+    top: u32,
 }
 
 impl Drop for Learner {
@@ -47,7 +50,8 @@ impl Drop for Learner {
             learned: _learned,
             tallies: _tallies,
             input: _input,
-            known: _known,
+            above: _above,
+            top: _top,
         } = self;
     }
 }
@@ -68,7 +72,7 @@ impl Model for Learner {
       tallies = l.tallies.map;
     } };
 
-    ghost invariant = { λ l. IsKept l.size l.learned.map l.input l.known.keys };
+    ghost invariant = { λ l. IsKept l.size l.learned.map l.input l.top l.above.keys };
 }
 
 /// Enters the values at the places from the end of the input on, up to the first that is not
@@ -77,9 +81,32 @@ fn raise_front(learned: &PlaceMap<Value>, input: &mut Input)
     requires { IsInputOf learned.now.map input.old }
     ensures input { IsInputOf learned.now.map input.new }
     ensures here { get learned.now.map (length input.new.ends) ≡ None }
+    ensures longer { length input.old.ends ≤ length input.new.ends }
 {
     while let Some(value) = learned.get(input.places()) {
         input.enter(value);
+    }
+}
+
+/// Keeps the keys of the value that is learned at `place`, if there is a hole below it. At the front
+/// itself they enter the input.
+fn keep_above(above: &mut KeySet, front: u32, place: u32, value: Value)
+    requires { MOST_CHARACTERS ≤ above.old.room }
+    ensures next { place ≤ front → above.new.keys ≡ above.old.keys }
+    ensures later { front < place → above.new.keys ≡ keys_with above.old.keys value }
+{
+    if place > front {
+        above.insert(value);
+    }
+}
+
+/// Drops the keys that are kept, if no learned place is above the front.
+fn drop_passed(above: &mut KeySet, front: u32, top: u32)
+    ensures passed { top ≤ front → above.new.keys ≡ [] }
+    ensures kept { front < top → above.new.keys ≡ above.old.keys }
+{
+    if top <= front {
+        above.clear();
     }
 }
 
@@ -96,7 +123,8 @@ impl Learner {
             learned: PlaceMap::new(alloc),
             tallies: PlaceMap::new(alloc),
             input: Input::new(alloc),
-            known: KeySet::new(alloc),
+            above: KeySet::new(alloc),
+            top: 0,
         }
     }
 
@@ -115,14 +143,17 @@ impl Learner {
         ensures ok { OnOk result (self.new ≡ (learn self.old place value.now).learner) }
         ensures err { OnErr result (self.new ≡ self.old) }
     {
-        let places = place + 1 - self.input.places();
+        let front = self.input.places();
+        let places = place + 1 - front;
         self.learned.make_room()?;
-        self.known.reserve(MOST_CHARACTERS)?;
+        self.above.reserve(MOST_CHARACTERS)?;
         self.input.reserve(places as usize)?;
         self.learned.insert(place, *value);
-        self.known.insert(*value);
+        keep_above(&mut self.above, front, place, *value);
         self.tallies.remove(place);
+        self.top = self.top.max(place + 1);
         raise_front(&self.learned, &mut self.input);
+        drop_passed(&mut self.above, self.input.places(), self.top);
         Ok(())
     }
 
@@ -255,6 +286,6 @@ impl Learner {
     pub fn has_learned(&self, key: TypedKey) -> bool
         ensures { IsTrue result ↔ StandsIn self.now.learned (key_of key) }
     {
-        self.known.contains(key)
+        self.has_read(key) || self.above.contains(key)
     }
 }
