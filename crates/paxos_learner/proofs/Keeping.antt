@@ -11,7 +11,7 @@ use Rattle.paxos_learner.specs.Entered.{keys_with, Entered, count_below}
 use Rattle.paxos_learner.proofs.KeyTests.{entered, entered_longer, keys_entered}
 use Rattle.std.specs.Ordering.{nat_cmp}
 use Rattle.std.specs.FinMap.{FinMap, get, insert}
-use Rattle.paxos_learner.specs.Kept.{AreAbove, IsInputOf, IsKept}
+use Rattle.paxos_learner.specs.Kept.{AreKeptAbove, IsInputOf, IsKept}
 use Rattle.paxos_learner.proofs.ValuesBelow.{values_more, same_below}
 use Rattle.paxos_learner.proofs.OnePlace.{get_put}
 use Rattle.paxos_learner.specs.Learner.{front_of}
@@ -96,12 +96,14 @@ not_below learned e s h none = elim (cases_lt s (length e.ends)) [
 
 -- A value is learned at a place from the front on. Its keys are kept, unless the place is the front: then the front has risen past
 -- it.
-module _ (learned : FinMap nat_cmp Value) (front top : ℕ) (keys : List Key) (s : ℕ) (v : Value) (h : AreAbove learned front top keys)
+module _ (learned : FinMap nat_cmp Value) (front top : ℕ) (keys : List Key) (s : ℕ) (v : Value) (h : AreKeptAbove learned front top keys)
     (none : get learned s ≡ None) (from : front ≤ s) where
   stand_more : (new : List Key) → (k : Key) → Contains keys k → StandsIn (insert learned s v) k
   stand_more new k there =
       let at = h.stand k there in
-      record { place = at.place; value = at.value; is_learned = grind (arith, nat_tests, get_put learned s v at.place, at.is_learned); has = at.has }
+      let still : get (insert learned s v) at.place ≡ Some at.value =
+      grind (arith, nat_tests, get_put learned s v at.place, at.is_learned) in
+      record { place = at.place; value = at.value; is_learned = still; has = at.has }
 
   -- a key of a value from the front on is kept, or is one of the new ones
   either_has : (q : ℕ) (w : Value) (k : Key) → get (insert learned s v) q ≡ Some w → Contains (keys_of w) k → front ≤ q
@@ -118,7 +120,7 @@ module _ (learned : FinMap nat_cmp Value) (front top : ℕ) (keys : List Key) (s
   ]
 
   pub above_more : (new : List Key) (risen : ℕ) → (s ≤ front → new ≡ keys) → (front < s → new ≡ keys_with keys v) → front ≤ risen
-      → get (insert learned s v) risen ≡ None → AreAbove (insert learned s v) risen (max top (s + 1)) new
+      → get (insert learned s v) risen ≡ None → AreKeptAbove (insert learned s v) risen (max top (s + 1)) new
   above_more new risen next later up here = elim (cases_lt front s) [
     | inl hole ↦ record {
       stand = λ k there. elim ((entered keys (keys_of v) k).0 (rw (later hole) at there)) [
@@ -139,8 +141,8 @@ module _ (learned : FinMap nat_cmp Value) (front top : ℕ) (keys : List Key) (s
   ]
 
 -- none is kept if no learned place is above the front
-pub above_passed : (learned : FinMap nat_cmp Value) (front top : ℕ) (keys new : List Key) → AreAbove learned front top keys
-    → (top ≤ front → new ≡ []) → (front < top → new ≡ keys) → AreAbove learned front top new
+pub above_passed : (learned : FinMap nat_cmp Value) (front top : ℕ) (keys new : List Key) → AreKeptAbove learned front top keys
+    → (top ≤ front → new ≡ []) → (front < top → new ≡ keys) → AreKeptAbove learned front top new
 above_passed learned front top keys new h passed kept = elim (cases_lt front top) [
   | inl some ↦ rw (kept some) h
   | inr none ↦ record {

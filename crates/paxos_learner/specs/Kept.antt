@@ -25,7 +25,7 @@ pub record IsInputOf (learned : FinMap nat_cmp Value) (e : Entered) : Type 0 whe
 -- These are keys of learned values, and all those from the front on: the input does not have them.
 -- Each learned place is below `top`.
 -- Allows: also keys of places below the front.
-pub record AreAbove (learned : FinMap nat_cmp Value) (front top : ℕ) (keys : List Key)
+pub record AreKeptAbove (learned : FinMap nat_cmp Value) (front top : ℕ) (keys : List Key)
     : Type 0 where
   pub stand : (k : Key) → Contains keys k → StandsIn learned k
   pub all : (s : ℕ) (v : Value) → get learned s ≡ Some v → front ≤ s → (k : Key)
@@ -40,4 +40,4 @@ pub record IsKept (size : ℕ) (learned : FinMap nat_cmp Value) (e : Entered) (t
   pub input : IsInputOf learned e
   pub here : get learned (length e.ends) ≡ None
   pub window : AreInWindow learned
-  pub keys : AreAbove learned (length e.ends) top above
+  pub keys : AreKeptAbove learned (length e.ends) top above

@@ -88,8 +88,8 @@ fn raise_front(learned: &PlaceMap<Value>, input: &mut Input)
     }
 }
 
-/// Keeps the keys of the value that is learned at `place`, if there is a hole below it. At the front
-/// itself they enter the input.
+/// Keeps the keys of the value that is learned at `place`, if there is a hole below it. At the
+/// front itself they enter the input.
 fn keep_above(above: &mut KeySet, front: u32, place: u32, value: Value)
     requires { MOST_CHARACTERS ≤ above.old.room }
     ensures next { place ≤ front → above.new.keys ≡ above.old.keys }

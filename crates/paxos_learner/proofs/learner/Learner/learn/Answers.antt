@@ -21,7 +21,8 @@ invariant_of-self-2 c =
     let ends = c.in_ok-reserve-2.ensures.ends in
     let more =
     above_more _ _ _ _ c.args.place _ c.self.invariant.keys none (not_below _ _ _ c.self.invariant.input none) _ _
-    (rw (front, kept) at c.keep_above.ensures.next) (rw (front, kept) at c.keep_above.ensures.later) (rw ends at c.raise_front.ensures.longer)
+    (rw (front, kept) at c.keep_above.ensures.next) (rw (front, kept) at c.keep_above.ensures.later)
+    (rw ends at c.raise_front.ensures.longer)
     (rw (c.insert.ensures, c.in_ok-make_room.ensures.map) at c.raise_front.ensures.here) in
     let top : c.max-self-inside.result ≡ max c.self.inside.top (c.args.place + 1) = search rules in
     record {
