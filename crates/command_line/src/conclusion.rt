@@ -1,10 +1,10 @@
 //! How a command ends, with its refusals, its texts and its status.
 use crate::datagram::ShowFault;
 use group_sim::{LineFault, ScriptRefusal};
-use group_udp::GroupFault;
 use machine_frozen::FrozenRefusal;
 use machine_run::{Finish, MachineRefusal};
 use machine_state::Stated;
+use node_io::GroupFault;
 use paxos_msg::WireFault;
 use pcode_machine::End;
 use std::io::Write;

@@ -11,13 +11,13 @@ use Rattle.paxos_acceptor.specs.declared.me.Me.{Me}
 use Rattle.paxos_disk.specs.Disks.{FileState, FindsNoMore, Folder, IsLeft, IsLeftOfAny}
 use Rattle.paxos_disk.specs.Found.{LoadsNoMore, MayLoad, disk_kind}
 use Rattle.paxos_disk.specs.Reads.{IsFolderOf, LogState}
-use Rattle.group_udp.specs.declared.fault.GroupFault.{GroupFault}
+use Rattle.node_io.specs.declared.fault.GroupFault.{GroupFault}
 use Rattle.node_run.specs.declared.cycles.RunPlan.{RunPlan}
-use Rattle.node_run.specs.Going.{Around}
+use Rattle.node_run.specs.Course.{Surroundings}
 use Rattle.node_run.specs.Runs.{RunsNode}
 use Rattle.group_process.specs.Runs.{FailsToStart, IsOver, NodeRun, Starts, record_by}
 use Rattle.group_process.specs.Terminals.{TerminalRun, shown_after}
-use Rattle.group_disk.specs.DiskCalls.{AreCallsAt, AreDiskCalls, DiskCall, FindsItsRecord, FindsOneOf, HaveStarts, IsCallWith, WriteAt, runs_of}
+use Rattle.group_disk.specs.DiskCalls.{AreCallsAt, AreDiskCalls, DiskCall, FindsItsRecord, FindsOneOf, HandFolderOn, HaveStarts, IsCallWith, WriteAt, runs_of}
 use Rattle.group_disk.specs.Folders.{AreOverDisk, DiskStart, IsNew, start_over}
 use Rattle.group_disk.specs.Written.{IsWrittenAt}
 use Rattle.group_disk.proofs.DiskRuns.{in_both, refused_starts, run_starts}
@@ -26,7 +26,7 @@ use Rattle.group_disk.proofs.RunsWrite.{run_writes}
 -- ---- over one disk
 
 -- where no more may be found, no more may be loaded
-loads_no_more : (old new : Folder) → FindsNoMore old new → LoadsNoMore old new
+pub loads_no_more : (old new : Folder) → FindsNoMore old new → LoadsNoMore old new
 loads_no_more old new fewer r may =
     record { me = may.me; left = may.left; in_range = may.in_range; found = fewer may.left may.found; reads = may.reads }
 
@@ -65,9 +65,8 @@ module _ {D : Type 0} (honest : Type 0) (folder_of : D → Folder) (is_honest : 
   pub have_starts : (folder : Folder) (calls : List (DiskCall D)) → AreDiskCalls honest folder_of p me folder calls
       → HaveStarts p me folder (runs_of calls)
   have_starts folder [] h = ([], tt, refl)
-  have_starts folder (c ∷ calls) (fewer, call, keeps, others) =
-      one_more folder c c.ran (runs_of calls) (loads_no_more folder (folder_of c.store.disk) fewer) call
-      (have_starts (folder_of c.end.disk) calls others)
+  have_starts folder (c ∷ calls) (fewer, call, others) =
+      one_more folder c c.ran (runs_of calls) fewer call (have_starts (folder_of c.end.disk) calls others)
 
   -- what a restart reads after a run
   finds_it : (c : DiskCall D) (ran : Option NodeRun) → IsGroup me.group → IsCallWith (disk_kind honest folder_of) p me c ran
@@ -82,13 +81,14 @@ module _ {D : Type 0} (honest : Type 0) (folder_of : D → Folder) (is_honest : 
 
   -- each call leaves what the next one requires
   pub find_records : (folder : Folder) (calls : List (DiskCall D)) → IsGroup me.group → IsFolderOf me folder
-      → AreDiskCalls honest folder_of p me folder calls → AllByRecursion (FindsItsRecord folder_of me) calls
-  find_records folder [] small good h = tt
-  find_records folder (c ∷ calls) small good (fewer, call, keeps, others) =
+      → AreDiskCalls honest folder_of p me folder calls → HandFolderOn folder_of me folder calls
+      → AllByRecursion (FindsItsRecord folder_of me) calls
+  find_records folder [] small good h hand = tt
+  find_records folder (c ∷ calls) small good (_, call, others) (fewer, keeps, more) =
       let begins : IsFolderOf me (folder_of c.store.disk) = λ left may. good left (fewer left may) in
       let leaves : IsFolderOf me (folder_of c.end.disk) = keeps begins in (
         record { begins = begins; leaves = leaves; finds = finds_it c c.ran small call leaves },
-        find_records (folder_of c.end.disk) calls small leaves others,
+        find_records (folder_of c.end.disk) calls small leaves others more,
       )
 
 -- in a new folder a restart finds no file
@@ -111,7 +111,7 @@ take_twice (suc k) (suc j) (x ∷ xs) =
     ap (λ l. x ∷ l) (take_twice k j xs) ∙ sym (ap (λ n. take n (x ∷ xs)) less)
 
 -- what a run writes to a writer that holds the front of what is there
-run_at_its_terminal : {S : Type 0} (kind : StoreKind S) (p : Parts) (me : Me) (store end : S) (plan : RunPlan) (from to : Around)
+run_at_its_terminal : {S : Type 0} (kind : StoreKind S) (p : Parts) (me : Me) (store end : S) (plan : RunPlan) (from to : Surroundings)
     (shown : List ℕ) (kept : ℕ) (before after : Option (List ℕ)) (result : Result (Unit {0}) GroupFault)
     (h : RunsNode kind me p store end plan from to before after result) → before ≡ Some (take kept shown)
     → plan.seen ≡ length (take kept shown) → IsWrittenAt shown kept h.last after result
@@ -158,6 +158,6 @@ module _ {D : Type 0} (honest : Type 0) (folder_of : D → Folder) (p : Parts) (
       → WriteAt full (runs_of calls) now
   write_at folder full shown j [] front are is =
       ([], refl, tt, record { rest = drop j full; whole = sym (take-append-drop j full) ∙ ap (λ l. l ++ drop j full) (sym (is ∙ front)) })
-  write_at folder full shown j (c ∷ calls) front (fewer, call, keeps, others) (kept, left, before, told, after, more) =
+  write_at folder full shown j (c ∷ calls) front (fewer, call, others) (kept, left, before, told, after, more) =
       write_more full shown left j kept c c.ran (runs_of calls) front call before told after
       (λ whole k e. write_at (folder_of c.end.disk) whole left k calls e others more)

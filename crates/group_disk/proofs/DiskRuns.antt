@@ -16,9 +16,9 @@ use Rattle.group_protocol.specs.declared.start.StartRefused.{StartRefused}
 use Rattle.group_node.specs.Starting.{StartsAfter}
 use Rattle.group_wire.specs.Starts.{HasStarted, LacksOutbox}
 use Rattle.group_process.specs.Runs.{IsOver, Starts}
-use Rattle.group_udp.specs.declared.fault.GroupFault.{GroupFault}
+use Rattle.node_io.specs.declared.fault.GroupFault.{GroupFault}
 use Rattle.node_run.specs.declared.cycles.RunPlan.{RunPlan}
-use Rattle.node_run.specs.Going.{Around}
+use Rattle.node_run.specs.Course.{Surroundings}
 use Rattle.node_run.specs.Runs.{RunsNode}
 use Rattle.group_disk.specs.Folders.{DiskStart, IsOverDisk, LeavesNoMoreThan, start_over}
 
@@ -34,7 +34,7 @@ is_store fault.Store = inl refl
 is_store f = inr (λ is. absurd cc)
 
 module _ {D : Type 0} (honest : Type 0) (folder_of : D → Folder) (is_honest : honest) (p : Parts) (me : Me) where
-  pub run_starts : (store end : LogState D) (plan : RunPlan) (from to : Around) (before after : Option (List ℕ))
+  pub run_starts : (store end : LogState D) (plan : RunPlan) (from to : Surroundings) (before after : Option (List ℕ))
       (result : Result (Unit {0}) GroupFault)
       (h : RunsNode (disk_kind honest folder_of) me p store end plan from to before after result) (is_changed : Bool)
       (rest : List DiskStart) → IsOverDisk p me (start_over (folder_of store.disk)

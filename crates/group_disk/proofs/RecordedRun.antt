@@ -5,7 +5,7 @@ use Rattle.paxos_msg.specs.Records.{empty_record}
 use Rattle.paxos_acceptor.specs.declared.me.Me.{Me}
 use Rattle.paxos_disk.specs.Found.{MayLoad, disk_kind}
 use Rattle.group_protocol.proofs.Elements.{entries_none}
-use Rattle.group_protocol.specs.declared.fault.NodeFault.TheVariants.{SerialSpent, Store}
+use Rattle.group_protocol.specs.declared.fault.NodeFault.TheVariants.{SerialSpent}
 use Rattle.group_protocol.specs.Known.{front}
 use Rattle.group_node.specs.Deeds.{Campaign, Run}
 use Rattle.group_node.specs.NodeCalls.{Running}
@@ -16,11 +16,11 @@ use Rattle.group_wire.specs.Process.{IsProcess, doings_of, started}
 use Rattle.group_wire.specs.Traffic.{grown}
 use Rattle.group_process.specs.Runs.{NodeRun}
 use Rattle.group_rules.specs.SmallPrograms.{letter_program}
-use Rattle.group_rules.proofs.SmallPrograms.{StepsLaw, WritesLetter, replays, writes_letter}
-use Rattle.group_udp.specs.declared.fault.GroupFault.TheVariants as group
-use Rattle.group_udp.specs.Prompts.{GivesWhatCame, no_keys}
-use Rattle.group_udp.specs.Refusals.{write_failed}
-use Rattle.node_run.specs.Going.{around}
+use Rattle.group_rules.proofs.SmallPrograms.{replays, writes_letter}
+use Rattle.node_io.specs.declared.fault.GroupFault.TheVariants as group
+use Rattle.node_io.specs.Prompts.{GivesWhatCame, no_keys}
+use Rattle.node_io.specs.Refusals.{write_failed}
+use Rattle.node_run.specs.Course.{around}
 use Rattle.node_run.specs.Prompted.{IsPrompted}
 use Rattle.node_run.specs.Runs.{RunsNode, WritesReleased}
 use Rattle.group_disk.specs.Recorded.{no_keyboard, recorded_plan, recorded_traffic, store_over}

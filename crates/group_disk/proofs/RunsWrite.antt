@@ -4,10 +4,10 @@ use Rattle.std.specs.Io.KnownBytes.{Appends}
 use Rattle.pcode_file.specs.Parts.{Parts}
 use Rattle.paxos_acceptor.specs.declared.me.Me.{Me}
 use Rattle.paxos_acceptor.specs.Stores.{StoreKind}
-use Rattle.group_udp.specs.declared.fault.GroupFault.{GroupFault}
-use Rattle.group_udp.specs.Refusals.{write_failed}
+use Rattle.node_io.specs.declared.fault.GroupFault.{GroupFault}
+use Rattle.node_io.specs.Refusals.{write_failed}
 use Rattle.node_run.specs.declared.cycles.RunPlan.{RunPlan}
-use Rattle.node_run.specs.Going.{Around}
+use Rattle.node_run.specs.Course.{Surroundings}
 use Rattle.node_run.specs.Runs.{RunsNode}
 use Rattle.group_process.specs.Runs.{output_of}
 use Rattle.group_process.specs.Terminals.{TerminalRun}
@@ -22,7 +22,7 @@ whole_by : (result : Result (Unit {0}) GroupFault) (wrote lost all : List ℕ) �
 whole_by (Ok x) wrote lost all whole none = sym (whole ∙ ap (λ l. wrote ++ l) (none (λ f. absurd cc)) ∙ append-nil wrote)
 whole_by (Err e) wrote lost all whole none = tt
 
-pub run_writes : {S : Type 0} (kind : StoreKind S) (p : Parts) (me : Me) (store end : S) (plan : RunPlan) (from to : Around)
+pub run_writes : {S : Type 0} (kind : StoreKind S) (p : Parts) (me : Me) (store end : S) (plan : RunPlan) (from to : Surroundings)
     (shown : List ℕ) (kept : ℕ) (after : Option (List ℕ)) (result : Result (Unit {0}) GroupFault)
     (h : RunsNode kind me p store end plan from to (Some (take kept shown)) after result) → plan.seen ≡ length (take kept shown)
     → IsWrittenAt shown kept h.last after result

@@ -7,13 +7,13 @@ use Rattle.paxos_acceptor.specs.Stores.{StoreKind}
 use Rattle.paxos_acceptor.specs.declared.me.Me.{Me}
 use Rattle.paxos_msg.specs.Batches.{Record}
 use Rattle.paxos_disk.specs.Disks.{FindsNoMore, Folder, MayFind}
-use Rattle.paxos_disk.specs.Found.{disk_kind}
+use Rattle.paxos_disk.specs.Found.{LoadsNoMore, disk_kind}
 use Rattle.paxos_disk.specs.Reads.{IsFolderOf, LogState, Reads}
-use Rattle.group_udp.specs.declared.fault.GroupFault.{GroupFault}
-use Rattle.group_process.specs.Runs.{Attempt, IsOver, NodeRun, record_by, run_output, runs_in}
+use Rattle.node_io.specs.declared.fault.GroupFault.{GroupFault}
+use Rattle.group_process.specs.Runs.{IsOver, NodeRun, record_by, run_output, runs_in}
 use Rattle.group_process.specs.Terminals.{TerminalRun, WriteInTurn, terminal_after}
 use Rattle.node_run.specs.declared.cycles.RunPlan.{RunPlan}
-use Rattle.node_run.specs.Going.{Around}
+use Rattle.node_run.specs.Course.{Surroundings}
 use Rattle.node_run.specs.Runs.{RefusesToStart, RunsNode}
 use Rattle.group_disk.specs.Folders.{AreOverDisk, DiskStart, starts_of}
 
@@ -25,8 +25,8 @@ pub record DiskCall (D : Type 0) : Type 0 where
   pub store : LogState D
   pub end : LogState D
   pub plan : RunPlan
-  pub from : Around
-  pub to : Around
+  pub from : Surroundings
+  pub to : Surroundings
   pub before : Option (List ℕ)
   pub after : Option (List ℕ)
   pub result : Result (Unit {0}) GroupFault
@@ -47,20 +47,28 @@ IsCallWith kind p me c (Some run) =
       stand = IsOver is_changed;
     })
 
+-- Calls over one disk, one after the other. Between them nothing is written: from what a call left,
+-- whatever a crash has made of it, no more may be loaded.
+abbrev pub AreDiskCalls : {D : Type 0} → Type 0 → (D → Folder) → Parts → Me → Folder
+    → List (DiskCall D) → Type 0
+AreDiskCalls honest folder_of p me folder [] = Unit {0}
+AreDiskCalls honest folder_of p me folder (c ∷ calls) =
+    LoadsNoMore folder (folder_of c.store.disk)
+    × IsCallWith (disk_kind honest folder_of) p me c c.ran
+    × AreDiskCalls honest folder_of p me (folder_of c.end.disk) calls
+
 -- What `run_over_disk` promises of its disk (`good`): from a folder of the node comes one.
 abbrev pub KeepsFolderOf : {D : Type 0} → (D → Folder) → Me → DiskCall D → Type 0
 KeepsFolderOf folder_of me c =
     IsFolderOf me (folder_of c.store.disk) → IsFolderOf me (folder_of c.end.disk)
 
--- Calls over one disk, one after the other. Between them nothing is written: in what a call left,
--- whatever a crash has made of it, a restart finds nothing that it could not find there before.
-abbrev pub AreDiskCalls : {D : Type 0} → Type 0 → (D → Folder) → Parts → Me → Folder
-    → List (DiskCall D) → Type 0
-AreDiskCalls honest folder_of p me folder [] = Unit {0}
-AreDiskCalls honest folder_of p me folder (c ∷ calls) =
-    FindsNoMore folder (folder_of c.store.disk)
-    × IsCallWith (disk_kind honest folder_of) p me c c.ran × KeepsFolderOf folder_of me c
-    × AreDiskCalls honest folder_of p me (folder_of c.end.disk) calls
+-- Calls that each keep that promise, over one disk. Between them a restart finds nothing in what a
+-- call left, whatever a crash has made of it, that it could not find there before.
+abbrev pub HandFolderOn : {D : Type 0} → (D → Folder) → Me → Folder → List (DiskCall D) → Type 0
+HandFolderOn folder_of me folder [] = Unit {0}
+HandFolderOn folder_of me folder (c ∷ calls) =
+    FindsNoMore folder (folder_of c.store.disk) × KeepsFolderOf folder_of me c
+    × HandFolderOn folder_of me (folder_of c.end.disk) calls
 
 -- Whatever a restart of this node finds in the folder, it reads one of these records from it.
 -- Forbids: A file that it cannot read.

@@ -1,10 +1,10 @@
 -- A run of which all is known: what passed over its wire, byte by byte, what is on its disk before
 -- and after it, what its keyboard gave, and what it wrote.
-use Rattle.std.specs.Prelude.{ℕ, true, List, [], ◌∷◌, Option, None, Some}
+use Rattle.std.specs.Prelude.{ℕ, true, List, [], ◌∷◌, Option, Some}
 use Rattle.paxos_msg.specs.Batches.{Record}
 use Rattle.paxos_disk.specs.Disks.{Folder}
 use Rattle.paxos_disk.specs.Reads.{LogState}
-use Rattle.group_udp.specs.Prompts.{KeyboardState, no_keys}
+use Rattle.node_io.specs.Prompts.{KeyboardState, no_keys}
 use Rattle.group_wire.specs.Traffic.{Hands, Traffic}
 use Rattle.node_run.specs.declared.cycles.RunPlan.{RunPlan}
 use Rattle.group_disk.specs.TornStarts.{first_of_three}

@@ -1,7 +1,7 @@
 -- What a run of a node writes, at the terminal that its writer is.
 use Rattle.std.specs.Prelude.{◌≡◌, ℕ, List, Option, Some, OnOk, Result}
 use Rattle.group_node.specs.NodeCalls.{Running}
-use Rattle.group_udp.specs.declared.fault.GroupFault.{GroupFault}
+use Rattle.node_io.specs.declared.fault.GroupFault.{GroupFault}
 use Rattle.group_process.specs.Runs.{output_of}
 use Rattle.group_process.specs.Terminals.{TerminalRun, WritesAt, WritesWhole, shown_after}
 

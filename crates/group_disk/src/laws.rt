@@ -6,14 +6,14 @@ ghost use Rattle.paxos_msg.specs.declared.message.Group.{Group};
 ghost use Rattle.paxos_msg.specs.Batches.{Record};
 ghost use Rattle.paxos_msg.specs.Fits.{IsGroup};
 ghost use Rattle.paxos_acceptor.specs.declared.me.Me.{Me};
-ghost use Rattle.paxos_disk.specs.Disks.{Folder};
-ghost use Rattle.paxos_disk.specs.Found.{LoadsOnly, disk_kind};
+ghost use Rattle.paxos_disk.specs.Disks.{FindsNoMore, Folder};
+ghost use Rattle.paxos_disk.specs.Found.{LoadsNoMore, LoadsOnly, disk_kind};
 ghost use Rattle.paxos_disk.specs.Reads.{IsFolderOf, LogState};
 ghost use Rattle.group_protocol.specs.declared.start.StartRefused.{StartRefused};
 ghost use Rattle.group_wire.specs.Starts.{HasStarted};
-ghost use Rattle.group_udp.specs.declared.fault.GroupFault.{GroupFault};
+ghost use Rattle.node_io.specs.declared.fault.GroupFault.{GroupFault};
 ghost use Rattle.node_run.specs.declared.cycles.RunPlan.{RunPlan};
-ghost use Rattle.node_run.specs.Going.{Around, around};
+ghost use Rattle.node_run.specs.Course.{Surroundings, around};
 ghost use Rattle.node_run.specs.Runs.{RunsNode};
 ghost use Rattle.group_protocol.specs.States.{IsSize};
 ghost use Rattle.group_rules.specs.SmallPrograms.{letter_program};
@@ -24,7 +24,7 @@ ghost use Rattle.group_disk.specs.Wrong.{MayCampaign, taken_back};
 ghost use Rattle.paxos_msg.specs.Records.{empty_record};
 ghost use Rattle.group_process.specs.Network.{GivenEntry, entries_alone};
 ghost use Rattle.group_process.specs.Runs.{AreRuns, Attempt, ConsolesAreReleased, ConsolesShowRuns, IsOver, NodeRun, Starts};
-ghost use Rattle.group_disk.specs.DiskCalls.{AreCallsAt, AreDiskCalls, DiskCall, FindsItsRecord, HaveStarts, WriteAt, runs_of};
+ghost use Rattle.group_disk.specs.DiskCalls.{AreCallsAt, AreDiskCalls, DiskCall, FindsItsRecord, HandFolderOn, HaveStarts, WriteAt, runs_of};
 ghost use Rattle.group_disk.specs.Folders.{AreOverDisk, DiskStart, IsFolderLog, IsNetworkFolderLog, IsNew, IsOverDisk, LeavesNoMoreThan, start_over, starts_of};
 ghost use Rattle.group_disk.specs.Headline.{AlwaysLaterOfDisks, AlwaysOfDiskNodes, AlwaysOfDisks, AreSeenAlike, AreUpAsRun, DisksLeaveNodes, HasFirstStarts, HaveMomentOfDisks, IsAfterDisks};
 ghost use Rattle.group_disk.specs.Recorded.{no_keyboard, recorded_plan, recorded_traffic, store_over};
@@ -227,7 +227,7 @@ pub fn wrong_starts()
 /// starts over its folders.
 pub fn runs_are_starts<D: Disk>()
     ensures runs { (p : Parts) (me : Me) (store end : LogState D) (plan : RunPlan)
-        (from to : Around) (before after : Option (List ℕ))
+        (from to : Surroundings) (before after : Option (List ℕ))
         (result : Result (Unit {0}) GroupFault)
         (h : RunsNode (disk_kind D.honest D.folder) me p store end plan from to before after result)
         (is_changed : Bool) (rest : List DiskStart) → D.honest
@@ -243,11 +243,12 @@ pub fn runs_are_starts<D: Disk>()
 /// The calls of `run_over_disk` at a node, one after the other over one honest disk and at one
 /// terminal, between which only a crash may touch either, are starts over the folder of that disk,
 /// and runs at that terminal. So the premises of the main theorem that speak of the disks and
-/// terminals of processes (`AreOverDisk`, `AreAtTerminal`) hold of calls of the program.
+/// terminals of processes (`AreOverDisk`, `AreAtTerminal`) hold of such calls, if they return.
 ///
 /// What a call requires of its disk is required of the first call alone, and a new folder meets it:
 /// each call leaves it to the next one (`finds`). After each run a restart finds a record, and it
-/// is that of the process, or one of the two that a failed save leaves.
+/// is that of the process, or one of the two that a failed save leaves. For this, nothing more may
+/// be found between two calls; then nothing more may be loaded either (`between`).
 pub fn calls_are_starts<D: Disk>()
     ensures starts { (p : Parts) (me : Me) (folder : Folder) (calls : List (DiskCall D))
         → D.honest → AreDiskCalls D.honest D.folder p me folder calls
@@ -255,8 +256,9 @@ pub fn calls_are_starts<D: Disk>()
     ensures new { (me : Me) (folder : Folder) → IsNew folder → IsFolderOf me folder }
     ensures finds { (p : Parts) (me : Me) (folder : Folder) (calls : List (DiskCall D))
         → D.honest → IsGroup me.group → IsFolderOf me folder
-        → AreDiskCalls D.honest D.folder p me folder calls
+        → AreDiskCalls D.honest D.folder p me folder calls → HandFolderOn D.folder me folder calls
         → AllByRecursion (FindsItsRecord D.folder me) calls }
+    ensures between { (old new : Folder) → FindsNoMore old new → LoadsNoMore old new }
     ensures terminal { (p : Parts) (me : Me) (folder : Folder) (calls : List (DiskCall D))
         (shown now : List ℕ) → AreDiskCalls D.honest D.folder p me folder calls
         → AreCallsAt shown calls now → WriteAt shown (runs_of calls) now }
@@ -265,9 +267,9 @@ pub fn calls_are_starts<D: Disk>()
 /// What a run of a node writes, to a writer that is told to begin at the number of the bytes that
 /// are there, is what it shows at the terminal that this writer is. A start that is refused writes
 /// nothing (`RefusesToStart`). So the runs of a node, over one writer, are at one terminal
-/// (`AreAtTerminal`), which is its console (`disks_headline`).
+/// (`AreAtTerminal`), which has a prefix of its console (`disks_headline`).
 pub fn runs_write<S: Store>()
-    ensures { (p : Parts) (me : Me) (store end : S) (plan : RunPlan) (from to : Around)
+    ensures { (p : Parts) (me : Me) (store end : S) (plan : RunPlan) (from to : Surroundings)
         (shown : List ℕ) (kept : ℕ) (after : Option (List ℕ))
         (result : Result (Unit {0}) GroupFault)
         (h : RunsNode S.kind me p store end plan from to (Some (take kept shown)) after result)

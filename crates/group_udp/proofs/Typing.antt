@@ -1,8 +1,8 @@
 -- What a keyboard has left, as more comes.
 use Rattle.std.proofs.lemmas.List.{length-take-le, take-append-drop, take-append-le, take_all}
-use Rattle.std.proofs.Common.{◌≡◌, ◌∙◌, ℕ, ◌≤◌, List, [], ◌∷◌, ◌++◌, drop, length, map, take, false, append_assoc, append-nil, Some, refl, sym, ap, arith}
-use Rattle.group_node.specs.Deeds.{Deed, Press}
-use Rattle.group_udp.specs.Prompts.{GivesWhatCame, KeyboardState, Remaining, before_gift, bytes_in, campaigns_in, no_keys, taken_more, with_more}
+use Rattle.std.proofs.Common.{◌≡◌, ◌∙◌, ℕ, ◌≤◌, List, [], ◌∷◌, ◌++◌, drop, length, map, take, false, append_assoc, append-nil, refl, sym, ap, arith}
+use Rattle.group_node.specs.Deeds.{Press}
+use Rattle.node_io.specs.Prompts.{GivesWhatCame, KeyboardState, Remaining, before_gift, bytes_in, campaigns_in, no_keys, taken_more, with_more}
 
 -- two that are the same
 pub same_left : (a b : Remaining) → a.bytes ≡ b.bytes → a.requests ≡ b.requests → a ≡ b
@@ -28,14 +28,6 @@ takes_in old new came left is_open stays more = record {
   stays = stays;
   more = more;
 }
-
--- what an opened keyboard has taken in is what it has given, and what it has left
-pub all_given : (old new : KeyboardState) (gift : List Deed) (all : Remaining) → old.left ≡ no_keys → old.taken_in ≡ Some no_keys
-    → GivesWhatCame old gift new → new.taken_in ≡ Some all → all ≡ before_gift gift new.left
-all_given old new gift all none opened h taken =
-    let both : Some all ≡ Some (with_more h.came no_keys) = sym taken ∙ h.more ∙ ap (taken_more h.came) opened in
-    let came : all ≡ with_more h.came no_keys = cc in
-    came ∙ ap (with_more h.came) (sym none) ∙ h.whole
 
 -- typed bytes ask for no campaign
 pressed : (bytes : List ℕ) → (bytes_in (map Press bytes) ≡ bytes) × (campaigns_in (map Press bytes) ≡ 0)

@@ -1,5 +1,3 @@
-pub mod Refusals
-pub mod Prompts
 pub mod Sources
 pub mod OwnDatagrams
 pub mod Pace

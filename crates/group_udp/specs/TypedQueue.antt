@@ -1,7 +1,7 @@
 -- What a queue of typed bytes takes in of a datagram.
 use Rattle.std.specs.Prelude.{◌-◌, ℕ, nat_le, Bool, List, [], ◌∷◌, length, min, if◌then◌else◌}
 use Rattle.group_udp.specs.declared.limits.TheConstants.{LONGEST_TYPED, MOST_KEPT}
-use Rattle.group_udp.specs.Prompts.{Remaining, no_keys, with_more}
+use Rattle.node_io.specs.Prompts.{Remaining, no_keys, with_more}
 
 -- A datagram that has room in the queue: it has at most 64 bytes, and at most 65,536 are kept.
 abbrev pub has_room : Remaining → List ℕ → Bool

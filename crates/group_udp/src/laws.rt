@@ -1,12 +1,9 @@
-//! Where datagrams come from, what a keyboard gives, and how long rests are, as contracts of
-//! functions that do nothing.
+//! Where datagrams come from, and how long rests are, as contracts of functions that do nothing.
 ghost use Rattle.std.specs.Prelude.{◌≡◌, ◌↔◌, ℕ, suc, Bool, List, Option, Some, slice_get};
 ghost use Rattle.std.specs.declared.net.socket_addr.SocketAddr.{SocketAddr};
 ghost use Rattle.paxos_msg.specs.Batches.{Msg};
 ghost use Rattle.paxos_msg.specs.Datagrams.{Msgs};
 ghost use Rattle.paxos_msg.specs.declared.message.Group.{Group};
-ghost use Rattle.group_node.specs.Deeds.{Deed};
-ghost use Rattle.group_udp.specs.Prompts.{GivesWhatCame, KeyboardState, Remaining, before_gift, no_keys};
 ghost use Rattle.group_udp.specs.Pace.{IsPace, first_pace, pace_after};
 ghost use Rattle.group_udp.specs.Sources.{IsFromSender};
 ghost use Rattle.group_udp.specs.declared.pace.Pace.{Pace};
@@ -17,15 +14,6 @@ pub fn sources_are_senders()
     ensures { (g : Group) (m : Msg) (bytes : List ℕ) (at : List SocketAddr) (source : SocketAddr)
         (i : ℕ) → Msgs g bytes m → m.sender ≡ suc i
         → (IsFromSender at source bytes ↔ (slice_get at i ≡ Some source)) }
-{}
-
-/// All that a keyboard has taken in since it was opened is what it has given and what it has left:
-/// each byte and each request once, and the bytes in order. It is said of one that remembers what
-/// it has taken in; a node can't tell it from another one.
-pub fn taken_in_is_given()
-    ensures { (old new : KeyboardState) (gift : List Deed) (all : Remaining) → old.left ≡ no_keys
-        → old.taken_in ≡ Some no_keys → GivesWhatCame old gift new → new.taken_in ≡ Some all
-        → all ≡ before_gift gift new.left }
 {}
 
 /// Unless something ends it early, a rest takes 10 to 200 milliseconds, whatever a node has learned

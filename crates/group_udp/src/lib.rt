@@ -12,24 +12,19 @@
 //! a run ended early.
 #![tactic(auto)]
 
-mod fault;
-mod keyboard;
 mod kinds;
 pub mod laws;
 pub mod limits;
 mod own_datagrams;
 mod pace;
 mod rest;
-mod resting;
 mod sources;
 mod trace;
 mod typed;
 mod typed_queue;
 mod udp;
 
-pub use fault::GroupFault;
-pub use keyboard::Keyboard;
-pub use resting::{CountedWire, RestingWire, Waited};
+pub use mio::net::UdpSocket;
 pub use sources::address_at;
 pub use trace::Trace;
 pub use typed::TypedDatagrams;

@@ -1,13 +1,13 @@
 //! Typed bytes that come as datagrams.
 ghost use Rattle.std.specs.Prelude.{◌≡◌, IfOk};
-ghost use Rattle.group_udp.specs.Prompts.{Remaining, no_keys, with_more};
+ghost use Rattle.node_io.specs.Prompts.{Remaining, no_keys, with_more};
 
-use crate::keyboard::Keyboard;
 use crate::limits::{LONGEST_TYPED, MOST_TAKEN_IN, REQUESTS_APART};
 use crate::typed_queue::TypedQueue;
 use crate::udp::receive_from;
 use group_protocol::limits::MOST_WAITING;
 use mio::net::UdpSocket;
+use node_io::Keyboard;
 use std::alloc::{AllocError, Global};
 use std::marker::Model;
 use std::time::{Clock, Duration, Instant};
@@ -28,7 +28,7 @@ pub struct TypedDatagrams<'a, H> {
 }
 
 impl<'a, H> Model for TypedDatagrams<'a, H> {
-    ghost use Rattle.group_udp.specs.Prompts.{Remaining};
+    ghost use Rattle.node_io.specs.Prompts.{Remaining};
 
     ghost Value = { Remaining };
 

@@ -1,7 +1,7 @@
 //! Typed bytes that have come, and for which there was no room yet.
 ghost use Rattle.std.specs.Prelude.{◌≡◌, ◌↔◌, ◌<◌, ◌++◌, [], ◌∷◌, drop, length, min, take, IfOk, IsTrue, if◌then◌else◌};
 ghost use Rattle.group_node.specs.Deeds.{Campaign};
-ghost use Rattle.group_udp.specs.Prompts.{before_gift, no_keys};
+ghost use Rattle.node_io.specs.Prompts.{before_gift, no_keys};
 ghost use Rattle.group_udp.specs.TypedQueue.{taken_in};
 
 use crate::limits::{LONGEST_TYPED, MOST_KEPT};
@@ -20,7 +20,7 @@ pub struct TypedQueue {
 impl Model for TypedQueue {
     ghost use Rattle.std.specs.Prelude.{◌≡◌, if◌then◌else◌};
     ghost use Rattle.group_udp.specs.declared.limits.TheConstants.{MOST_KEPT};
-    ghost use Rattle.group_udp.specs.Prompts.{Remaining};
+    ghost use Rattle.node_io.specs.Prompts.{Remaining};
 
     ghost Value = { Remaining };
 

@@ -1,19 +1,18 @@
 //! UDP sockets as wires.
 ghost use Rattle.std.specs.Prelude.{◌≡◌, ◌≤◌, length, IfErr, IfSome};
-ghost use Rattle.group_udp.specs.Refusals.{IsOpenRefusal, IsSocketRefusal};
+ghost use Rattle.node_io.specs.Refusals.{IsOpenRefusal, IsSocketRefusal};
 ghost use Rattle.group_udp.specs.Sources.{drop_of};
 
-use crate::fault::GroupFault;
 use crate::kinds::is_ask;
 use crate::own_datagrams::OwnDatagrams;
 use crate::rest::Rest;
-use crate::resting::{CountedWire, RestingWire, Waited};
 use crate::sources::{address_at, is_from_sender, taken_of};
 use crate::trace::Trace;
 use group_log::{DropReason, Drops, Sends, reason_of};
 use group_wire::{Told, Wire};
 use mio::net::UdpSocket;
 use mio::{Events, Interest, Poll, Token};
+use node_io::{CountedWire, GroupFault, RestingWire, Waited};
 use paxos_msg::Group;
 use paxos_msg::limits::MOST_NODES;
 use std::net::{Net, SocketAddr};

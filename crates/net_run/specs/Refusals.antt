@@ -6,9 +6,9 @@ use Rattle.machine_run.specs.Files.{IsFileRefusal}
 use Rattle.machine_run.specs.declared.refusal.MachineRefusal.{MachineRefusal}
 use Rattle.machine_run.specs.declared.refusal.MachineRefusal.TheVariants.{Run}
 use Rattle.machine_run.specs.declared.run.RunIo.TheVariants.{Read}
-use Rattle.group_udp.specs.declared.fault.GroupFault.{GroupFault}
-use Rattle.group_udp.specs.declared.fault.GroupFault.TheVariants as group
-use Rattle.group_udp.specs.Refusals.{IsCampaignRefusal, IsOpenRefusal, IsRunRefusal, no_memory}
+use Rattle.node_io.specs.declared.fault.GroupFault.{GroupFault}
+use Rattle.node_io.specs.declared.fault.GroupFault.TheVariants as group
+use Rattle.node_io.specs.Refusals.{IsCampaignRefusal, IsOpenRefusal, IsRunRefusal, no_memory}
 
 -- What a node of a group in one process may refuse when it takes a turn: it is stopped, or a save
 -- failed.

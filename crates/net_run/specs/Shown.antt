@@ -3,8 +3,8 @@ use Rattle.std.specs.Prelude.{◌≡◌, ℕ, ◌+◌, ◌<◌, List, length, Re
 use Rattle.group_node.specs.NodeCalls.{running, unreleased_by}
 use Rattle.group_node.specs.States.{NodeState}
 use Rattle.group_wire.specs.Turns.{released_by}
-use Rattle.group_udp.specs.declared.fault.GroupFault.{GroupFault}
-use Rattle.group_udp.specs.Refusals.{no_memory}
+use Rattle.node_io.specs.declared.fault.GroupFault.{GroupFault}
+use Rattle.node_io.specs.Refusals.{no_memory}
 
 -- A console that shows what the node has released.
 abbrev pub ShowsReleased : {S : Type 0} → List ℕ → NodeState S → Type 0

@@ -1,14 +1,14 @@
 //! The command `net`: a group in one process, on loopback UDP, over stores in memory.
 ghost use Rattle.std.specs.Prelude.{◌⊎◌, IfErr};
-ghost use Rattle.group_udp.specs.Refusals.{IsOpenRefusal};
+ghost use Rattle.node_io.specs.Refusals.{IsOpenRefusal};
 ghost use Rattle.net_run.specs.Refusals.{IsFileOrInputRefusal, IsNetRefusal, IsPressRefusal, IsShownCampaignRefusal, IsShownTurnRefusal};
 
 use crate::shown::ShownNode;
 use group_log::{Log, LogLevel, Note};
 use group_node::Config;
-use group_udp::{GroupFault, UdpWire, Watch, bind};
+use group_udp::{UdpSocket, UdpWire, Watch, bind};
 use machine_run::{RunIo, load_file, read_whole};
-use mio::net::UdpSocket;
+use node_io::GroupFault;
 use paxos_msg::Group;
 use pcode_ops::Program;
 use std::alloc::Global;

@@ -9,27 +9,27 @@ use Rattle.group_node.specs.Deeds.{Campaign, Run}
 use Rattle.group_node.specs.Output.{IsReplay, no_progress}
 use Rattle.group_node.specs.States.{NodeState, input}
 use Rattle.group_wire.specs.declared.answers.Turned.{Turned}
-use Rattle.group_udp.specs.declared.fault.GroupFault.{GroupFault}
-use Rattle.group_udp.specs.declared.fault.GroupFault.TheVariants as group
-use Rattle.group_udp.specs.Refusals.{IsCampaignRefusal, IsCycleRefusal, IsWrittenCycleRefusal, write_failed}
+use Rattle.node_io.specs.declared.fault.GroupFault.{GroupFault}
+use Rattle.node_io.specs.declared.fault.GroupFault.TheVariants as group
+use Rattle.node_io.specs.Refusals.{IsCampaignRefusal, IsCycleRefusal, IsWrittenCycleRefusal, write_failed}
 use Rattle.node_run.specs.declared.answering.Answered.{Answered}
 use Rattle.node_run.specs.declared.answering.Answered.TheVariants.{Bytes, Campaigned, CampaignRefused, Ignored}
 use Rattle.node_run.specs.declared.cycles.RunPlan.{RunPlan}
 use Rattle.node_run.specs.declared.retries.Retried.{Retried}
 use Rattle.node_run.specs.Answering.{AnswersWhatCame, HasAnsweredKeyboard}
 use Rattle.node_run.specs.Cycles.{AnswersKeyboard, AreCycles, Begins, CampaignsAgain, DoesCycles, EndsAtKeyboard, EndsAtRest, EndsAtRetry, EndsAtTurn, EndsBeforeRelease, EndsInCycle, IsCycle, IsRun, ReleasesOutput, Rests, RunMoment, TakesTurn, TurnsOnce}
-use Rattle.node_run.specs.Going.{Around, HasEnded, HasGone, HasGoneOn, around, planned}
+use Rattle.node_run.specs.Course.{Surroundings, HasEnded, MadeTurnsOrEnded, HasMadeTurns, around, planned}
 use Rattle.node_run.specs.Output.{AppendsOutput, NoneWaits}
 use Rattle.node_run.specs.Releases.{WritesAll}
 use Rattle.node_run.specs.Runs.{IsEarlyEnd}
-use Rattle.node_run.proofs.Going.{GoOn, begun_by, campaign_refused, ended_then, gift_both, gift_none, gives_now, gone_ended, gone_then, prompted, prompted_none, save_ended}
+use Rattle.node_run.proofs.Course.{GoOn, begun_by, campaign_refused, ended_then, gift_both, gift_none, gives_now, gone_ended, gone_then, prompted, prompted_none, save_ended}
 use Rattle.node_run.proofs.KeyboardAnswers.{answered_on, retried_on, retry_ended}
 use Rattle.node_run.proofs.Writing.{none_at_start, wrote_all, wrote_but_one, wrote_none, wrote_then}
 
 -- ---- deeds
 
 -- what was done at a keyboard, as it was answered
-as_answered : {S : Type 0} {kind : StoreKind S} {old new : NodeState S} {from to : Around} (answer : Answered)
+as_answered : {S : Type 0} {kind : StoreKind S} {old new : NodeState S} {from to : Surroundings} (answer : Answered)
     → AnswersWhatCame kind answer old new from to → HasAnsweredKeyboard kind old new from to (Ok answer)
 as_answered Bytes h = (h.again, h.did.0, gift_both h.looks (gives_now h.did.1), h.did.2)
 as_answered Campaigned h = (h.again, gift_both h.looks (gives_now h.did.0), h.did.1)
@@ -38,19 +38,19 @@ as_answered (CampaignRefused f) h = (h.again, gift_both h.looks (gives_now h.did
 
 module _ {S : Type 0} {kind : StoreKind S} (laws : GoOn kind) where
   -- the parts of a cycle
-  rest_goes : {a b : RunMoment S} → Rests kind a b → HasGoneOn [] a.node b.node a.around b.around 0
+  rest_goes : {a b : RunMoment S} → Rests kind a b → HasMadeTurns [] a.node b.node a.around b.around 0
   rest_goes h = record { gift = []; prompts = []; given = h.looks; acts = h.acts; prompted = rw h.retries prompted_none }
 
   retry_goes : {a b : RunMoment S} (retried : Retried) → CampaignsAgain kind retried a b
-      → HasGoneOn [] a.node b.node a.around b.around 0
+      → HasMadeTurns [] a.node b.node a.around b.around 0
   retry_goes retried h = retried_on kind retried (laws.none _ _) h.did
 
   answer_goes : {a b : RunMoment S} (answer : Answered) → AnswersKeyboard kind answer a b
-      → HasGoneOn [] a.node b.node a.around b.around 0
+      → HasMadeTurns [] a.node b.node a.around b.around 0
   answer_goes answer h = answered_on kind answer (as_answered answer h.did)
 
   turn_goes : {begun : ℕ} {turned : Turned} {a b : RunMoment S} → TakesTurn kind begun turned a b
-      → HasGoneOn [] a.node b.node a.around b.around 1
+      → HasMadeTurns [] a.node b.node a.around b.around 1
   turn_goes h = record {
     gift = [];
     prompts = Run 1000 ∷ [];
@@ -60,25 +60,25 @@ module _ {S : Type 0} {kind : StoreKind S} (laws : GoOn kind) where
   }
 
   release_goes : {seen : ℕ} {a b : RunMoment S} (result : Result (Unit {0}) GroupFault) → ReleasesOutput seen a b result
-      → HasGoneOn [] a.node b.node a.around b.around 0
+      → HasMadeTurns [] a.node b.node a.around b.around 0
   release_goes result h =
       record { gift = []; prompts = []; given = rw h.alone (gift_none _); acts = h.acts; prompted = rw h.alone prompted_none }
 
   -- a cycle, and many
-  once_goes : {a b : RunMoment S} → TurnsOnce kind a b → HasGoneOn [] a.node b.node a.around b.around 1
+  once_goes : {a b : RunMoment S} → TurnsOnce kind a b → HasMadeTurns [] a.node b.node a.around b.around 1
   once_goes h =
       gone_then laws (gone_then laws (rest_goes h.rests) (retry_goes h.retried h.campaigns))
       (gone_then laws (answer_goes h.answer h.answers) (turn_goes h.turns))
 
-  cycle_goes : {seen : ℕ} {a b : RunMoment S} → IsCycle kind seen a b → HasGoneOn [] a.node b.node a.around b.around 1
+  cycle_goes : {seen : ℕ} {a b : RunMoment S} → IsCycle kind seen a b → HasMadeTurns [] a.node b.node a.around b.around 1
   cycle_goes h = gone_then laws (once_goes h.turns) (release_goes (Ok tt) h.releases)
 
-  cycles_go : (seen n : ℕ) (a b : RunMoment S) → AreCycles kind seen n a b → HasGoneOn [] a.node b.node a.around b.around n
+  cycles_go : (seen n : ℕ) (a b : RunMoment S) → AreCycles kind seen n a b → HasMadeTurns [] a.node b.node a.around b.around n
   cycles_go seen zero a b is =
       rw is (record { gift = []; prompts = []; given = gift_none _; acts = laws.none _ _; prompted = prompted_none })
   cycles_go seen (suc n) a b (mid, before, last) =
       let more : n + 1 ≡ suc n = omega arith in
-      subst (HasGoneOn [] a.node b.node a.around b.around) more (gone_then laws (cycles_go seen n a mid before) (cycle_goes last))
+      subst (HasMadeTurns [] a.node b.node a.around b.around) more (gone_then laws (cycles_go seen n a mid before) (cycle_goes last))
 
   -- ---- up to a refusal
 
@@ -111,7 +111,7 @@ module _ {S : Type 0} {kind : StoreKind S} (laws : GoOn kind) where
   )
 
   cycles_end : (seen turns : ℕ) (a b : RunMoment S) (result : Result (Unit {0}) GroupFault)
-      → DoesCycles kind seen turns a b result → HasGone kind [] a.node b.node a.around b.around turns result
+      → DoesCycles kind seen turns a b result → MadeTurnsOrEnded kind [] a.node b.node a.around b.around turns result
   cycles_end seen turns a b (Ok x) h = cycles_go seen turns a b h
   cycles_end seen turns a b (Err e) (made, mid, few, before, last) =
       let (done, less, ends) = cycle_ends mid b last in
@@ -119,13 +119,13 @@ module _ {S : Type 0} {kind : StoreKind S} (laws : GoOn kind) where
 
   -- a run
   pub run_goes : (plan : RunPlan) (a b : RunMoment S) (result : Result (Unit {0}) GroupFault) → IsRun kind plan a b result
-      → HasGone kind (planned plan.campaigns) a.node b.node a.around b.around plan.turns result
+      → MadeTurnsOrEnded kind (planned plan.campaigns) a.node b.node a.around b.around plan.turns result
   run_goes plan a b result (inl (e, is, h)) =
       rw (is, h.untyped, h.retries) (campaign_refused h.did h.why)
   run_goes plan a b result (inr (mid, h, cycles)) =
       let same : mid.around ≡ around mid.around.traffic a.around.keyboard a.around.retries = rw (h.untyped, h.retries) refl in
       begun_by laws b.node a.around.keyboard a.around.retries b.around plan.turns result h.did
-      (subst (λ (m : Around). HasGone kind [] mid.node b.node m b.around plan.turns result) same
+      (subst (λ (m : Surroundings). MadeTurnsOrEnded kind [] mid.node b.node m b.around plan.turns result) same
       (cycles_end plan.seen plan.turns mid b result cycles))
 
 -- ---- what is written

@@ -6,9 +6,9 @@ use Rattle.group_protocol.specs.Known.{front}
 use Rattle.group_node.specs.Deeds.{Run}
 use Rattle.group_node.specs.Output.{IsReplay}
 use Rattle.group_node.specs.States.{NodeState, input}
-use Rattle.group_udp.specs.declared.fault.GroupFault.{GroupFault}
-use Rattle.group_udp.specs.declared.fault.GroupFault.TheVariants as group
-use Rattle.group_udp.specs.Prompts.{GivesWhatCame, KeyboardState}
+use Rattle.node_io.specs.declared.fault.GroupFault.{GroupFault}
+use Rattle.node_io.specs.declared.fault.GroupFault.TheVariants as group
+use Rattle.node_io.specs.Prompts.{GivesWhatCame, KeyboardState}
 use Rattle.group_wire.specs.declared.answers.Received.{Received}
 use Rattle.group_wire.specs.declared.answers.Turned.{Turned}
 use Rattle.group_wire.specs.Traffic.{Traffic}
@@ -18,9 +18,9 @@ use Rattle.node_run.specs.declared.answering.Answered.{Answered}
 use Rattle.node_run.specs.Answering.{AnswersWhatCame, HasAnsweredKeyboard}
 use Rattle.node_run.specs.Cycles.{EndsBeforeRelease, HearsTimes, HearsOnce, HearsAtRest, Rests, TurnsOnce, run_moment}
 use Rattle.node_run.specs.declared.retries.Retried.{Retried}
-use Rattle.node_run.specs.Going.{Around, FailsAt, around}
+use Rattle.node_run.specs.Course.{Surroundings, FailsAt, around}
 use Rattle.node_run.specs.Retries.{HasRetried}
-use Rattle.node_run.proofs.Going.{GoOn}
+use Rattle.node_run.proofs.Course.{GoOn}
 
 -- ---- receives
 
@@ -76,7 +76,7 @@ module _ {S : Type 0} (kind : StoreKind S) (written : Option (List ℕ)) where
   module _ {old mid : NodeState S} {t u : Option Traffic} {keys seen : KeyboardState} {retries : ℕ}
       (rest : HasHeardSome kind old mid t u) (looks : GivesWhatCame keys [] seen) where
     -- a campaign once more that was refused
-    pub retry_refused : {new : NodeState S} {to : Around} {e : GroupFault}
+    pub retry_refused : {new : NodeState S} {to : Surroundings} {e : GroupFault}
         → HasRetried kind mid new (around u seen retries) to (Err e) → SameReleased old new
         → EndsBeforeRelease kind (run_moment old (around t keys retries) written) (run_moment new to written) e
     retry_refused did stays = (
@@ -89,10 +89,10 @@ module _ {S : Type 0} (kind : StoreKind S) (written : Option (List ℕ)) where
       })),
     )
 
-    module _ {tried : NodeState S} {after : Around} (retried : Retried)
+    module _ {tried : NodeState S} {after : Surroundings} (retried : Retried)
         (again : HasRetried kind mid tried (around u seen retries) after (Ok retried)) where
       -- the answer to the keyboard that was refused
-      pub answer_ended : {new : NodeState S} {to : Around} {e : GroupFault}
+      pub answer_ended : {new : NodeState S} {to : Surroundings} {e : GroupFault}
           → HasAnsweredKeyboard kind tried new after to (Err e) → SameReleased old new
           → EndsBeforeRelease kind (run_moment old (around t keys retries) written) (run_moment new to written) e
       answer_ended did stays = (
@@ -108,7 +108,7 @@ module _ {S : Type 0} (kind : StoreKind S) (written : Option (List ℕ)) where
         }))),
       )
 
-      module _ {typed : NodeState S} {via : Around} (answer : Answered)
+      module _ {typed : NodeState S} {via : Surroundings} (answer : Answered)
           (did : AnswersWhatCame kind answer tried typed after via) where
         -- a turn that was refused
         pub turn_ended : {new : NodeState S} {to : Option Traffic} {e : GroupFault} → (f : NodeFault)

@@ -10,18 +10,18 @@ use Rattle.group_node.specs.States.{NodeState}
 use Rattle.group_wire.specs.Doings.{ActsTyping, HasActed}
 use Rattle.group_wire.specs.Presses.{HasPressed}
 use Rattle.group_wire.specs.Traffic.{Traffic}
-use Rattle.group_udp.specs.declared.fault.GroupFault.{GroupFault}
-use Rattle.group_udp.specs.declared.fault.GroupFault.TheVariants as group
+use Rattle.node_io.specs.declared.fault.GroupFault.{GroupFault}
+use Rattle.node_io.specs.declared.fault.GroupFault.TheVariants as group
 use Rattle.node_run.specs.declared.answering.Answered.{Answered}
 use Rattle.node_run.specs.declared.answering.Answered.TheVariants.{Bytes, Campaigned, CampaignRefused, Ignored}
-use Rattle.node_run.specs.Going.{Around, HasEnded, HasGoneOn, HasReason, around}
+use Rattle.node_run.specs.Course.{Surroundings, HasEnded, HasMadeTurns, HasReason, around}
 use Rattle.node_run.specs.Answering.{AnswersSeen, AnswersWhatCame, HasCampaignedAsAsked, HasAnsweredKeyboard, HasTypedGiven, left_once_answered, left_once_given, retries_after, room_of}
 use Rattle.node_run.specs.declared.retries.Retried.{Retried}
 use Rattle.node_run.specs.declared.retries.Retried.TheVariants as again
 use Rattle.node_run.specs.Retries.{HasRetried, retries_unless_leading}
 use Rattle.group_protocol.specs.Known.{Known}
-use Rattle.group_udp.specs.Prompts.{GivesWhatCame, HasGiven, KeyboardState, Remaining, before_gift}
-use Rattle.node_run.proofs.Going.{gift_both, gift_none, given_both, gives_now, not_given, prompted, prompted_lost, prompted_typed, same_left, save_ended}
+use Rattle.node_io.specs.Prompts.{GivesWhatCame, HasGiven, KeyboardState, Remaining, before_gift}
+use Rattle.node_run.proofs.Course.{gift_both, gift_none, given_both, gives_now, not_given, prompted, prompted_lost, prompted_typed, same_left, save_ended}
 
 -- where all of some bytes have room, none is left
 none_left : {S : Type 0} {old new : NodeState S} {before after : List ℕ} → HasPressed old new before after (Ok tt)
@@ -49,8 +49,8 @@ typed_some {after = after} {from} to e h (typed, whole, acts) same works given =
 fewer_unless_leading : (retries : ℕ) (n : Known) → 0 + retries_unless_leading retries n ≤ 0 * 4 + retries
 fewer_unless_leading retries n = grind arith
 
-pub answered_on : {S : Type 0} (kind : StoreKind S) {old new : NodeState S} {from to : Around} (answered : Answered)
-    → HasAnsweredKeyboard kind old new from to (Ok answered) → HasGoneOn [] old new from to 0
+pub answered_on : {S : Type 0} (kind : StoreKind S) {old new : NodeState S} {from to : Surroundings} (answered : Answered)
+    → HasAnsweredKeyboard kind old new from to (Ok answered) → HasMadeTurns [] old new from to 0
 answered_on kind Bytes (again, typed, given, acts) =
     record { gift = map Press typed; prompts = map Press typed; given = given; acts = acts; prompted = rw again (prompted_typed typed) }
 answered_on kind Campaigned (again, given, asked) =
@@ -67,8 +67,8 @@ answered_on kind (CampaignRefused f) (again, given, refused) =
     record { gift = Campaign ∷ []; prompts = []; given = given; acts = refused.4; prompted = prompted refl (omega (arith, again)) refl }
 
 -- a campaign once more, by its answer
-pub retried_on : {S : Type 0} (kind : StoreKind S) {old new : NodeState S} {from to : Around} (retried : Retried)
-    → HasActed old old from.traffic from.traffic [] → HasRetried kind old new from to (Ok retried) → HasGoneOn [] old new from to 0
+pub retried_on : {S : Type 0} (kind : StoreKind S) {old new : NodeState S} {from to : Surroundings} (retried : Retried)
+    → HasActed old old from.traffic from.traffic [] → HasRetried kind old new from to (Ok retried) → HasMadeTurns [] old new from to 0
 retried_on kind {old} {from = from} again.NotDue none (not, same, is) = rw (same, is) (record {
   gift = [];
   prompts = [];
@@ -84,7 +84,7 @@ retried_on kind {from = from} {to} (again.CampaignRefused f) none (due, keyboard
     record { gift = []; prompts = []; given = given; acts = acts; prompted = prompted refl (omega (arith, spent)) refl }
 
 -- one at which a save failed
-pub retry_ended : {S : Type 0} (kind : StoreKind S) {old new : NodeState S} {from to : Around} {e : GroupFault}
+pub retry_ended : {S : Type 0} (kind : StoreKind S) {old new : NodeState S} {from to : Surroundings} {e : GroupFault}
     → HasRetried kind old new from to (Err e) → HasEnded kind [] old new from to 0 e
 retry_ended kind {from = from} (due, keyboard, fewer, fails) =
     save_ended {gift = []} fails (rw keyboard (gift_none from.keyboard)) (prompted refl (omega (arith, fewer)) refl)

@@ -1,10 +1,9 @@
-mod Going
+mod Course
 mod Starting
 mod KeyboardAnswers
 mod Releasing
 mod Writing
 mod Running
 mod CycleDeeds
-mod OverFile
 mod Cycling
 mod WrongCycles

@@ -2,7 +2,6 @@
 use Rattle.std.proofs.Common.{◌≡◌, ◌∙◌, inl, inr, ℕ, List, Option, IfErr, IsErrOf, OnOk, Result, Ok, Err, refl, sym, ap, subst, arith, ◌≢◌, ◌⊎◌, ◌≤◌, [], false}
 use Rattle.std.proofs.lemmas.Grind.{common_steps}
 use Rattle.std.proofs.lemmas.List.{drop_all}
-use Rattle.std.specs.declared.net.socket_addr.SocketAddr.{SocketAddr}
 use Rattle.pcode_file.specs.Parts.{Parts}
 use Rattle.paxos_acceptor.specs.declared.me.Me.{Me}
 use Rattle.paxos_acceptor.specs.Stores.{IsStoreOf, MayLoadOnly, StoreKind}
@@ -13,18 +12,16 @@ use Rattle.group_wire.specs.Process.{RunsAsProcess}
 use Rattle.group_wire.specs.Starts.{HasStarted}
 use Rattle.group_protocol.specs.declared.fault.NodeFault.TheVariants.{Store}
 use Rattle.group_node.specs.Deeds.{Deed}
-use Rattle.group_udp.specs.declared.fault.GroupFault.{GroupFault}
-use Rattle.group_udp.specs.declared.fault.GroupFault.TheVariants as group
+use Rattle.node_io.specs.declared.fault.GroupFault.{GroupFault}
+use Rattle.node_io.specs.declared.fault.GroupFault.TheVariants as group
 use Rattle.node_run.specs.declared.cycles.RunPlan.{RunPlan}
-use Rattle.node_run.specs.declared.node.NodePlan.{NodePlan}
-use Rattle.node_run.specs.Ends.{RunsOpened, RunsWith, keyboard_at_first}
-use Rattle.node_run.specs.Going.{Around, HasEnded, HasGone, planned}
+use Rattle.node_run.specs.Course.{Surroundings, HasEnded, MadeTurnsOrEnded, planned}
 use Rattle.node_run.specs.Output.{AppendsOutput}
-use Rattle.group_udp.specs.Refusals.{IsCampaignRefusal, write_failed}
+use Rattle.node_io.specs.Refusals.{IsCampaignRefusal, write_failed}
 use Rattle.node_run.specs.Cycles.{IsRun, RunMoment, run_moment}
 use Rattle.node_run.specs.Runs.{IsEarlyEnd, RunsInCycles, RunsNode, WritesReleased}
 use Rattle.node_run.proofs.CycleDeeds.{early_end, none_waits_after, run_goes, run_writes}
-use Rattle.node_run.proofs.Going.{GoOn, is_store, prompted_if}
+use Rattle.node_run.proofs.Course.{GoOn, is_store, prompted_if}
 use Rattle.node_run.proofs.Starting.{me_is, ran_on, ran_out}
 
 -- what was written from a start on
@@ -33,7 +30,7 @@ written_from : {S : Type 0} (p : Parts) (seen : ℕ) (first last : NodeState S) 
     → WritesReleased seen (running last) fails c d
 written_from p seen first last fails c d start replay (wrote, h, appends) = grind (arith, common_steps, h.lost, drop_all)
 
-module _ {S : Type 0} {kind : StoreKind S} {me : Me} {program : Parts} {store end : S} {plan : RunPlan} {from to : Around}
+module _ {S : Type 0} {kind : StoreKind S} {me : Me} {program : Parts} {store end : S} {plan : RunPlan} {from to : Surroundings}
     {before after : Option (List ℕ)} (laws : GoOn kind) where
   -- a run as its cycles is a process
   abbrev RunsTo : (result : Result (Unit {0}) GroupFault) → RunsInCycles kind me program store end plan from to before after result
@@ -97,7 +94,7 @@ module _ {S : Type 0} {kind : StoreKind S} {me : Me} {program : Parts} {store en
   )
 
   runs_by : (result : Result (Unit {0}) GroupFault) (h : RunsInCycles kind me program store end plan from to before after result)
-      → HasGone kind (planned plan.campaigns) h.start h.final from to plan.turns result → RunsTo result h
+      → MadeTurnsOrEnded kind (planned plan.campaigns) h.start h.final from to plan.turns result → RunsTo result h
   runs_by (Ok x) h k = (
     record {
       last = running h.final;
@@ -129,7 +126,7 @@ module _ {S : Type 0} {kind : StoreKind S} {me : Me} {program : Parts} {store en
 -- ---- whose store it leaves
 
 module _ {S : Type 0} (kind : StoreKind S) (me : Me) (program : Parts) (store : S) (plan : RunPlan) (first last : NodeState S)
-    (from to : Around) (starts : HasStarted kind me program store (Ok first)) where
+    (from to : Surroundings) (starts : HasStarted kind me program store (Ok first)) where
   -- the node is still the one that it was
   ended_as : {e : GroupFault} (begun : List Deed) (done : ℕ) → HasEnded kind begun first last from to done e
       → last.protocol.known.me ≡ first.protocol.known.me
@@ -138,7 +135,7 @@ module _ {S : Type 0} (kind : StoreKind S) (me : Me) (program : Parts) (store : 
     | inr other ↦ (h.acts other).1.me
   ]
 
-  same_node : (result : Result (Unit {0}) GroupFault) → HasGone kind (planned plan.campaigns) first last from to plan.turns result
+  same_node : (result : Result (Unit {0}) GroupFault) → MadeTurnsOrEnded kind (planned plan.campaigns) first last from to plan.turns result
       → last.protocol.known.me ≡ me
   same_node (Ok x) h = h.acts.1.me ∙ me_is kind me program store first starts
   same_node (Err e) (inl (done, few, h)) = ended_as (planned plan.campaigns) done h ∙ me_is kind me program store first starts
@@ -151,12 +148,3 @@ module _ {S : Type 0} (kind : StoreKind S) (me : Me) (program : Parts) (store : 
   stays_own laws {before} {after} result h owned =
       subst (λ (n : Me). IsStoreOf kind n last.protocol.store)
       (same_node result (run_goes laws plan (run_moment first from before) (run_moment last to after) result h)) owned
-
--- ---- over the files and sockets of the system
-
--- it is typed at the keyboard of the plan
-pub opened : {me : Me} {program : Parts} (plan : NodePlan) (text : List ℕ) {before after : Option (List ℕ)}
-    {result : Result (Unit {0}) GroupFault} (keys : Option SocketAddr) → plan.keys ≡ keys
-    → RunsWith me program plan (keyboard_at_first keys text) before after result → RunsOpened me program plan text before after result
-opened {me} {program} plan text {before} {after} {result} keys is h =
-    subst (λ k. RunsWith me program plan (keyboard_at_first k text) before after result) (sym is) h

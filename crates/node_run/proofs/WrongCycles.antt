@@ -10,12 +10,12 @@ use Rattle.group_node.specs.NodeCalls.{running, unreleased_by}
 use Rattle.group_node.specs.States.{input}
 use Rattle.group_wire.specs.declared.answers.Turned.{Turned}
 use Rattle.group_wire.specs.declared.limits.TheConstants.{TURN_STEPS}
-use Rattle.group_udp.specs.Prompts.{GivesWhatCame, KeyboardState, Remaining, no_keys, with_more}
+use Rattle.node_io.specs.Prompts.{GivesWhatCame, KeyboardState, Remaining, no_keys, with_more}
 use Rattle.node_run.specs.declared.answering.Answered.{Answered}
 use Rattle.node_run.specs.Answering.{left_once_answered, room_of}
 use Rattle.node_run.specs.Cycles.{AnswersKeyboard, ReleasesOutput, RunMoment, TakesTurn}
 use Rattle.node_run.specs.Wrong.{closed_with}
-use Rattle.node_run.proofs.Going.{looked, with_none}
+use Rattle.node_run.proofs.Course.{looked, with_none}
 
 -- nothing comes to a closed keyboard that is looked at
 seen_is : (bytes : List ℕ) (requests : ℕ) (k seen : KeyboardState) → k ≡ closed_with bytes requests → GivesWhatCame k [] seen

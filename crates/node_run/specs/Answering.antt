@@ -10,14 +10,14 @@ use Rattle.group_node.specs.States.{NodeState}
 use Rattle.group_wire.specs.Campaigns.{HasCampaigned}
 use Rattle.group_wire.specs.Doings.{HasActed}
 use Rattle.group_wire.specs.Traffic.{Traffic}
-use Rattle.group_udp.specs.declared.fault.GroupFault.{GroupFault}
-use Rattle.group_udp.specs.declared.fault.GroupFault.TheVariants as group
+use Rattle.node_io.specs.declared.fault.GroupFault.{GroupFault}
+use Rattle.node_io.specs.declared.fault.GroupFault.TheVariants as group
 use Rattle.node_run.specs.declared.answering.Answered.{Answered}
 use Rattle.node_run.specs.declared.answering.Answered.TheVariants.{Bytes, Campaigned, CampaignRefused, Ignored}
-use Rattle.node_run.specs.Going.{Around, FailsAt, HasEnded, HasReason}
+use Rattle.node_run.specs.Course.{Surroundings, FailsAt, HasEnded, HasReason}
 use Rattle.node_run.specs.declared.limits.TheConstants.{MOST_RETRIES}
-use Rattle.group_udp.specs.Prompts.{GivesWhatCame, HasGiven, KeyboardState, Remaining}
-use Rattle.group_udp.specs.Refusals.{IsCycleRefusal}
+use Rattle.node_io.specs.Prompts.{GivesWhatCame, HasGiven, KeyboardState, Remaining}
+use Rattle.node_io.specs.Refusals.{IsCycleRefusal}
 
 -- A node that leads without a gap: each vote of its record is at a place below its known front.
 abbrev pub LeadsWithoutGap : Known → Type 0
@@ -93,7 +93,7 @@ retries_after (CampaignRefused f) retries = 0
 -- else by all bytes for which the node has room.
 -- Forbids: a request that is there and passed over; a byte for which there is room, likewise.
 pub record AnswersWhatCame {S : Type 0} (kind : StoreKind S) (answer : Answered)
-    (old new : NodeState S) (from to : Around) : Type 0 where
+    (old new : NodeState S) (from to : Surroundings) : Type 0 where
   pub seen : KeyboardState
   pub looks : GivesWhatCame from.keyboard [] seen
   pub did : AnswersSeen kind answer old new from.traffic to.traffic seen to.keyboard
@@ -103,7 +103,7 @@ pub record AnswersWhatCame {S : Type 0} (kind : StoreKind S) (answer : Answered)
 -- What happens at a keyboard before a turn: typing of what it gave, or a campaign that it asked
 -- for, as the answer says.
 abbrev pub HasAnsweredKeyboard : {S : Type 0} → StoreKind S → NodeState S → NodeState S
-    → Around → Around → Result Answered GroupFault → Type 0
+    → Surroundings → Surroundings → Result Answered GroupFault → Type 0
 HasAnsweredKeyboard kind old new from to (Ok Bytes) =
     (to.retries ≡ from.retries) × (typed : List ℕ)
     × GivesWhatCame from.keyboard (map Press typed) to.keyboard

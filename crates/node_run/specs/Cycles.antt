@@ -6,10 +6,10 @@ use Rattle.group_protocol.specs.Known.{front}
 use Rattle.group_node.specs.Deeds.{Run}
 use Rattle.group_node.specs.Output.{IsReplay}
 use Rattle.group_node.specs.States.{NodeState, input}
-use Rattle.group_udp.specs.declared.fault.GroupFault.{GroupFault}
-use Rattle.group_udp.specs.declared.fault.GroupFault.TheVariants as group
-use Rattle.group_udp.specs.Prompts.{GivesWhatCame}
-use Rattle.group_udp.specs.Refusals.{IsCampaignRefusal}
+use Rattle.node_io.specs.declared.fault.GroupFault.{GroupFault}
+use Rattle.node_io.specs.declared.fault.GroupFault.TheVariants as group
+use Rattle.node_io.specs.Prompts.{GivesWhatCame}
+use Rattle.node_io.specs.Refusals.{IsCampaignRefusal}
 use Rattle.group_wire.specs.declared.answers.Received.{Received}
 use Rattle.group_wire.specs.declared.answers.Turned.{Turned}
 use Rattle.group_wire.specs.declared.limits.TheConstants.{TURN_STEPS}
@@ -20,18 +20,18 @@ use Rattle.node_run.specs.declared.answering.Answered.{Answered}
 use Rattle.node_run.specs.declared.cycles.RunPlan.{RunPlan}
 use Rattle.node_run.specs.declared.retries.Retried.{Retried}
 use Rattle.node_run.specs.Answering.{AnswersWhatCame, HasAnsweredKeyboard}
-use Rattle.node_run.specs.Going.{Around, CampaignsIf, FailsAt}
+use Rattle.node_run.specs.Course.{Surroundings, CampaignsIf, FailsAt}
 use Rattle.node_run.specs.Releases.{HasReleased}
 use Rattle.node_run.specs.Retries.{HasRetried}
 
 -- A moment of a run: the node, what is around it, and what its writer holds.
 pub record RunMoment (S : Type 0) : Type 0 where
   pub node : NodeState S
-  pub around : Around
+  pub around : Surroundings
   pub written : Option (List ℕ)
 
 -- These three, put together.
-abbrev pub run_moment : {S : Type 0} → NodeState S → Around → Option (List ℕ) → RunMoment S
+abbrev pub run_moment : {S : Type 0} → NodeState S → Surroundings → Option (List ℕ) → RunMoment S
 run_moment node around written = record { node = node; around = around; written = written }
 
 -- ---- the parts of a cycle

@@ -1,10 +1,9 @@
 pub mod Output
-pub mod Going
+pub mod Course
 pub mod Answering
 pub mod Retries
 pub mod Prompted
 pub mod Releases
 pub mod Runs
-pub mod Ends
 pub mod Cycles
 pub mod Wrong

@@ -2,7 +2,7 @@
 use Rattle.std.specs.Prelude.{◌≡◌, ◌≤◌, ◌+◌, ◌*◌, ℕ, Bool, true, false, List, [], ◌++◌, filter, length}
 use Rattle.group_node.specs.Deeds.{Deed, Run}
 use Rattle.node_run.specs.declared.limits.TheConstants.{MOST_RETRIES}
-use Rattle.group_udp.specs.Prompts.{bytes_in, campaigns_in}
+use Rattle.node_io.specs.Prompts.{bytes_in, campaigns_in}
 
 -- True of a prompt to run the machine.
 abbrev pub is_run : Deed → Bool

@@ -2,9 +2,9 @@
 use Rattle.std.specs.Prelude.{◌≡◌, ℕ, ◌+◌, ◌-◌, ◌≤◌, List, [], ◌∷◌, ◌++◌, drop, length, Option, Result, Ok, Err}
 use Rattle.std.specs.Io.KnownBytes.{Appends}
 use Rattle.group_node.specs.States.{NodeState, input}
-use Rattle.group_udp.specs.declared.fault.GroupFault.{GroupFault}
+use Rattle.node_io.specs.declared.fault.GroupFault.{GroupFault}
 use Rattle.node_run.specs.Output.{ReleasesBytes, all_released, unreleased_from}
-use Rattle.group_udp.specs.Refusals.{write_failed}
+use Rattle.node_io.specs.Refusals.{write_failed}
 
 -- A moment of a node: the node, and what its writer holds, where that is known.
 pub record NodeMoment (S : Type 0) : Type 0 where

@@ -10,10 +10,10 @@ use Rattle.group_node.specs.Deeds.{Campaign}
 use Rattle.group_node.specs.States.{NodeState}
 use Rattle.group_wire.specs.Campaigns.{HasCampaigned}
 use Rattle.group_wire.specs.Doings.{HasActed}
-use Rattle.group_udp.specs.declared.fault.GroupFault.{GroupFault}
+use Rattle.node_io.specs.declared.fault.GroupFault.{GroupFault}
 use Rattle.node_run.specs.declared.retries.Retried.{Retried}
 use Rattle.node_run.specs.declared.retries.Retried.TheVariants.{NotDue, Campaigned, CampaignRefused}
-use Rattle.node_run.specs.Going.{Around, FailsAt}
+use Rattle.node_run.specs.Course.{Surroundings, FailsAt}
 
 -- The node has no ballot, since it was refused: a Refused has reported a greater one than the node
 -- has promised.
@@ -34,8 +34,8 @@ retries_unless_leading retries n = if is_leading n.proposer then 0 else retries
 -- A campaign once more for a request, if it is due, and its answer. Only a save that fails ends the
 -- node.
 -- Forbids: a campaign of a node that leads, or whose ballot was not refused.
-abbrev pub HasRetried : {S : Type 0} → StoreKind S → NodeState S → NodeState S → Around → Around
-    → Result Retried GroupFault → Type 0
+abbrev pub HasRetried : {S : Type 0} → StoreKind S → NodeState S → NodeState S → Surroundings
+    → Surroundings → Result Retried GroupFault → Type 0
 HasRetried kind old new from to (Ok NotDue) =
     (¬ IsRetryDue from.retries old.protocol.known) × (new ≡ old)
     × (to ≡ record from { retries = retries_unless_leading from.retries old.protocol.known })

@@ -13,15 +13,15 @@ use Rattle.group_node.specs.States.{NodeState, input}
 use Rattle.group_node.specs.NodeCalls.{Running, running, unreleased_by}
 use Rattle.group_wire.specs.Process.{RunsAsProcess}
 use Rattle.group_wire.specs.Starts.{HasStarted}
-use Rattle.group_udp.specs.declared.fault.GroupFault.{GroupFault}
-use Rattle.group_udp.specs.declared.fault.GroupFault.TheVariants as group
+use Rattle.node_io.specs.declared.fault.GroupFault.{GroupFault}
+use Rattle.node_io.specs.declared.fault.GroupFault.TheVariants as group
 use Rattle.node_run.specs.declared.cycles.RunPlan.{RunPlan}
 use Rattle.node_run.specs.Cycles.{IsRun, run_moment}
-use Rattle.node_run.specs.Going.{Around, HasReason, planned}
+use Rattle.node_run.specs.Course.{Surroundings, HasReason, planned}
 use Rattle.node_run.specs.Output.{released_from}
-use Rattle.group_udp.specs.Prompts.{GivesWhatCame}
+use Rattle.node_io.specs.Prompts.{GivesWhatCame}
 use Rattle.node_run.specs.Prompted.{IsPrompted}
-use Rattle.group_udp.specs.Refusals.{IsCampaignRefusal, IsWrittenCycleRefusal, write_failed}
+use Rattle.node_io.specs.Refusals.{IsCampaignRefusal, IsWrittenCycleRefusal, write_failed}
 
 -- What was written in the run of a node: the bytes that it has released, from number `seen` on,
 -- each once and in order. If a write failed, the last of them is lost. They are output of the
@@ -51,7 +51,7 @@ IsEarlyEnd plan e = IsWrittenCycleRefusal e ⊎ ((plan.campaigns ≡ true) × Is
 -- Allows: turns at which nothing is heard.
 -- Forbids: output that waits at `Ok`.
 pub record RunsNode {S : Type 0} (kind : StoreKind S) (me : Me) (program : Parts) (store end : S)
-    (plan : RunPlan) (from to : Around) (before after : Option (List ℕ))
+    (plan : RunPlan) (from to : Surroundings) (before after : Option (List ℕ))
     (result : Result (Unit {0}) GroupFault) : Type 0 where
   pub last : Running
   pub first : List Deed
@@ -79,7 +79,7 @@ pub record RunsNode {S : Type 0} (kind : StoreKind S) (me : Me) (program : Parts
 -- honest store, and no other. That it is a process then is a law (`cycles_are_a_run`).
 -- Forbids: a cycle without its turn, its release, or its look at the keyboard.
 pub record RunsInCycles {S : Type 0} (kind : StoreKind S) (me : Me) (program : Parts)
-    (store end : S) (plan : RunPlan) (from to : Around) (before after : Option (List ℕ))
+    (store end : S) (plan : RunPlan) (from to : Surroundings) (before after : Option (List ℕ))
     (result : Result (Unit {0}) GroupFault) : Type 0 where
   pub start : NodeState S
   pub final : NodeState S
@@ -91,8 +91,8 @@ pub record RunsInCycles {S : Type 0} (kind : StoreKind S) (me : Me) (program : P
       → MayLoadOnly kind end final.protocol.known.kept
 
 -- A start that is refused: nothing passes, nothing is typed, and nothing is written.
-abbrev pub RefusesToStart : {S : Type 0} → StoreKind S → Me → Parts → S → S → Around → Around
-    → Option (List ℕ) → Option (List ℕ) → Result (Unit {0}) GroupFault → Type 0
+abbrev pub RefusesToStart : {S : Type 0} → StoreKind S → Me → Parts → S → S → Surroundings
+    → Surroundings → Option (List ℕ) → Option (List ℕ) → Result (Unit {0}) GroupFault → Type 0
 RefusesToStart {S} kind me program store end from to before after result =
     (refused : StartRefused S) × HasStarted kind me program store (Err refused)
     × (end ≡ refused.store) × (to ≡ from) × (after ≡ before)
@@ -100,15 +100,16 @@ RefusesToStart {S} kind me program store end from to before after result =
 
 -- A run of a node over a store, a wire and a keyboard, and the store `end` after it. Its start is
 -- refused, or it starts, and runs.
-abbrev pub RunsOrRefuses : {S : Type 0} → StoreKind S → Me → Parts → S → S → RunPlan → Around
-    → Around → Option (List ℕ) → Option (List ℕ) → Result (Unit {0}) GroupFault → Type 0
+abbrev pub RunsOrRefuses : {S : Type 0} → StoreKind S → Me → Parts → S → S → RunPlan → Surroundings
+    → Surroundings → Option (List ℕ) → Option (List ℕ) → Result (Unit {0}) GroupFault → Type 0
 RunsOrRefuses kind me program store end plan from to before after result =
     RefusesToStart kind me program store end from to before after result
     ⊎ RunsNode kind me program store end plan from to before after result
 
 -- The same, of a run that is known as its cycles.
-abbrev pub CyclesOrRefuses : {S : Type 0} → StoreKind S → Me → Parts → S → S → RunPlan → Around
-    → Around → Option (List ℕ) → Option (List ℕ) → Result (Unit {0}) GroupFault → Type 0
+abbrev pub CyclesOrRefuses : {S : Type 0} → StoreKind S → Me → Parts → S → S → RunPlan
+    → Surroundings → Surroundings → Option (List ℕ) → Option (List ℕ)
+    → Result (Unit {0}) GroupFault → Type 0
 CyclesOrRefuses kind me program store end plan from to before after result =
     RefusesToStart kind me program store end from to before after result
     ⊎ RunsInCycles kind me program store end plan from to before after result

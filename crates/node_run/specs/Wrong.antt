@@ -1,6 +1,6 @@
 -- A keyboard of which all that it has is known.
 use Rattle.std.specs.Prelude.{ℕ, true, List, Some}
-use Rattle.group_udp.specs.Prompts.{KeyboardState, no_keys}
+use Rattle.node_io.specs.Prompts.{KeyboardState, no_keys}
 
 -- A closed keyboard that has these bytes and so many requests left, and takes nothing in.
 abbrev pub closed_with : List ℕ → ℕ → KeyboardState

@@ -1,16 +1,16 @@
 //! What a node does with what its keyboard gives before a turn.
 ghost use Rattle.std.specs.Prelude.{◌≡◌, ◌<◌, ◌↔◌, false, IfOk, IsTrue, OnErr, OnOk};
 ghost use Rattle.group_wire.specs.Turns.{SameReleased};
-ghost use Rattle.node_run.specs.Going.{around_of};
+ghost use Rattle.node_run.specs.Course.{around_of};
 ghost use Rattle.node_run.specs.Answering.{AnswersWhatCame, HasAnsweredKeyboard, HasCampaignedAsAsked, HasTypedGiven, LeadsWithoutGap, left_once_given, retries_after, room_of};
 
 use crate::endpoints::Endpoints;
 use crate::limits::MOST_RETRIES;
 use group_node::{Node, NodeFault};
 use group_protocol::limits::MOST_WAITING;
-use group_udp::{GroupFault, Keyboard};
 use group_wire::laws::deeds_go_on;
 use group_wire::{Host, Told, Wire};
+use node_io::{GroupFault, Keyboard};
 use paxos_acceptor::Store;
 
 /// What a node did with what its keyboard gave.

@@ -3,9 +3,9 @@ ghost use Rattle.std.specs.Prelude.{◌≡◌, ℕ, List, false, IfErr, IsErrOf,
 ghost use Rattle.paxos_acceptor.specs.Stores.{CountsIf};
 ghost use Rattle.group_wire.specs.Turns.{SameReleased};
 ghost use Rattle.node_run.specs.Cycles.{DoesCycle, DoesCycles, IsRun, TurnsOrEnds, run_moment};
-ghost use Rattle.node_run.specs.Going.{CampaignsIf, around_of};
+ghost use Rattle.node_run.specs.Course.{CampaignsIf, around_of};
 ghost use Rattle.node_run.specs.Runs.{IsEarlyEnd};
-ghost use Rattle.group_udp.specs.Refusals.{IsCampaignRefusal, IsCycleRefusal, IsWrittenCycleRefusal, write_failed};
+ghost use Rattle.node_io.specs.Refusals.{IsCampaignRefusal, IsCycleRefusal, IsWrittenCycleRefusal, write_failed};
 
 use crate::answering::{Answered, answer_keyboard};
 use crate::endpoints::Endpoints;
@@ -14,10 +14,10 @@ use crate::rest::{is_busy_after, own_turn, rest_unless_busy};
 use crate::retries::{Retried, campaign_again};
 use group_log::{Log, Note};
 use group_protocol::limits::MOST_WAITING;
-use group_udp::{CountedWire, GroupFault, Keyboard};
 use group_wire::laws::deeds_go_on;
 use group_wire::{Host, Wire};
 use machine_run::ByteWriter;
+use node_io::{CountedWire, GroupFault, Keyboard};
 use paxos_acceptor::Store;
 use std::io::Write;
 use std::time::Clock;

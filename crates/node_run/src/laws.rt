@@ -8,10 +8,10 @@ ghost use Rattle.group_node.specs.Output.{IsReplay, Progress};
 ghost use Rattle.group_node.specs.NodeCalls.{running, unreleased_by};
 ghost use Rattle.group_protocol.specs.declared.limits.TheConstants.{MOST_WAITING};
 ghost use Rattle.group_wire.specs.declared.answers.Turned.{Turned};
-ghost use Rattle.group_udp.specs.declared.fault.GroupFault.{GroupFault};
+ghost use Rattle.node_io.specs.declared.fault.GroupFault.{GroupFault};
 ghost use Rattle.node_run.specs.declared.answering.Answered.{Answered};
 ghost use Rattle.node_run.specs.declared.cycles.RunPlan.{RunPlan};
-ghost use Rattle.node_run.specs.Going.{Around};
+ghost use Rattle.node_run.specs.Course.{Surroundings};
 ghost use Rattle.node_run.specs.Runs.{RunsInCycles, RunsNode};
 ghost use Rattle.node_run.specs.Cycles.{AnswersKeyboard, ReleasesOutput, RunMoment, TakesTurn};
 ghost use Rattle.node_run.specs.Output.{AreFirst, released_from};
@@ -49,7 +49,7 @@ pub fn consoles_go_on()
 /// A run that is known as its cycles is the run of a process: of the deeds that its cycles are,
 /// over the record that one load of its store gave, with the output that its releases have written.
 pub fn cycles_are_a_run<S: Store>()
-    ensures { (me : Me) (program : Parts) (store end : S) (plan : RunPlan) (from to : Around)
+    ensures { (me : Me) (program : Parts) (store end : S) (plan : RunPlan) (from to : Surroundings)
         (before after : Option (List ℕ)) (result : Result (Unit {0}) GroupFault)
         (h : RunsInCycles S.kind me program store end plan from to before after result)
         → (run : RunsNode S.kind me program store end plan from to before after result)

@@ -6,10 +6,10 @@ ghost use Rattle.group_wire.specs.Doings.{HasActed};
 ghost use Rattle.group_wire.specs.Traffic.{Traffic};
 ghost use Rattle.node_run.specs.Releases.{HasReleased};
 
-use group_udp::GroupFault;
 use group_wire::laws::deeds_go_on;
 use group_wire::{Host, Told, Wire};
 use machine_run::{ByteWriter, RunIo, WriteFault};
+use node_io::GroupFault;
 use paxos_acceptor::Store;
 
 /// Writes a released byte exactly if its number is not below `seen`. A fault of the writer is

@@ -6,18 +6,18 @@ ghost use Rattle.group_wire.specs.declared.limits.TheConstants.{TURN_STEPS};
 ghost use Rattle.group_wire.specs.Doings.{HasActed};
 ghost use Rattle.group_wire.specs.Turns.{HasTurned, SameReleased};
 ghost use Rattle.group_protocol.specs.declared.fault.NodeFault.{NodeFault};
-ghost use Rattle.group_udp.specs.declared.fault.GroupFault.TheVariants as group;
-ghost use Rattle.group_udp.specs.Prompts.{GivesWhatCame};
+ghost use Rattle.node_io.specs.declared.fault.GroupFault.TheVariants as group;
+ghost use Rattle.node_io.specs.Prompts.{GivesWhatCame};
 ghost use Rattle.node_run.specs.Cycles.{HearsOnce, HearsAtRest};
-ghost use Rattle.node_run.specs.Going.{FailsAt, HasRested};
+ghost use Rattle.node_run.specs.Course.{FailsAt, HasRested};
 ghost use Rattle.node_run.specs.Output.{SameProgram};
 
 use crate::endpoints::Endpoints;
 use crate::limits::MOST_RESTING;
 use group_node::Ran;
-use group_udp::{GroupFault, Keyboard, RestingWire, Waited};
 use group_wire::laws::deeds_go_on;
 use group_wire::{Host, Received, Wire};
+use node_io::{GroupFault, Keyboard, RestingWire, Waited};
 use paxos_acceptor::Store;
 use paxos_msg::limits::MOST_CHARACTERS;
 

@@ -1,14 +1,14 @@
 //! What a node does if the ballot is refused under which it campaigned for a request.
 ghost use Rattle.std.specs.Prelude.{◌≡◌, ◌↔◌, false, IsTrue, OnOk};
 ghost use Rattle.group_wire.specs.Turns.{SameReleased};
-ghost use Rattle.node_run.specs.Going.{around_of};
+ghost use Rattle.node_run.specs.Course.{around_of};
 ghost use Rattle.node_run.specs.Retries.{HasRetried, IsBallotRefused};
 
 use crate::endpoints::Endpoints;
 use group_node::{Node, NodeFault};
-use group_udp::{GroupFault, Keyboard};
 use group_wire::laws::deeds_go_on;
 use group_wire::{Host, Wire};
+use node_io::{GroupFault, Keyboard};
 use paxos_acceptor::Store;
 
 /// What a node did about a refused ballot.

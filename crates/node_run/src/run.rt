@@ -1,33 +1,25 @@
-//! A whole run of one node: over any store, wire and keyboard, over any disk, and over the files
-//! and sockets of the system.
-ghost use Rattle.std.specs.Prelude.{◌≡◌, [], IfErr, IsErrOf, None, Some};
+//! A whole run of one node: over any store, wire and keyboard, and over any disk.
+ghost use Rattle.std.specs.Prelude.{◌≡◌, IfErr, IsErrOf, None};
 ghost use Rattle.paxos_acceptor.specs.Stores.{CountsIf, IsStoreOf};
 ghost use Rattle.paxos_disk.specs.Found.{disk_kind};
 ghost use Rattle.paxos_disk.specs.Reads.{IsFolderOf};
-ghost use Rattle.node_run.specs.Ends.{RunsOpened, RunsOverFile, RunsWith, keyboard_at_first};
-ghost use Rattle.node_run.specs.Going.{around_of};
-ghost use Rattle.group_udp.specs.Refusals.{IsRunRefusal, write_failed};
+ghost use Rattle.node_run.specs.Course.{around_of};
+ghost use Rattle.node_io.specs.Refusals.{IsRunRefusal, write_failed};
 ghost use Rattle.node_run.specs.Runs.{CyclesOrRefuses};
 
 use crate::cycles::{RunPlan, campaign_and_play};
-use crate::endpoints::{Endpoints, open_keyboard, open_wire};
-use crate::laws::cycles_are_a_run;
-use crate::node::NodePlan;
-use crate::text::Text;
+use crate::endpoints::Endpoints;
 use group_log::Log;
 use group_node::{Config, NodeFault, StartRefused};
-use group_udp::{CountedWire, GroupFault, Keyboard, UdpWire, Watch};
 use group_wire::laws::deeds_go_on;
 use group_wire::{Host, Told, Wire};
 use machine_run::ByteWriter;
+use node_io::{CountedWire, GroupFault, Keyboard};
 use paxos_acceptor::Store;
-use paxos_disk::{Disk, FileDisk, LogStore};
+use paxos_disk::{Disk, LogStore};
 use pcode_ops::Program;
 use std::alloc::Global;
-use std::fs::File;
 use std::io::Write;
-use std::net::{Net, SocketAddr};
-use std::rt::Files;
 use std::time::Clock;
 
 /// How the run of a node ended, and its store.
@@ -149,122 +141,4 @@ pub fn run_over_disk<
     // It says what a restart finds there.
     end.store.disk();
     end
-}
-
-/// Runs one node over the record in the file that the plan names.
-fn run_over_file<
-    H: Files<File = File> + Net + Clock + AllocGlobal + Copy + Drop,
-    K: Keyboard,
-    W: ByteWriter,
-    E: Write,
->(
-    rt: &H,
-    program: &Program,
-    config: Config,
-    plan: &NodePlan<'_>,
-    endpoints: &mut Endpoints<UdpWire<'_, H>, K>,
-    writer: &mut W,
-    log: &mut Log<'_, H, E>,
-) -> Result<(), GroupFault>
-    requires fresh { endpoints.old.retries ≡ 0 }
-    ensures ends { RunsOverFile config program.now plan.now
-        (K.keys endpoints.old.keyboard) (K.keys endpoints.new.keyboard)
-        (W.contents writer.old) (W.contents writer.new) result }
-{
-    cycles_are_a_run::<LogStore<FileDisk<H>>>();
-    let disk = FileDisk::new(*rt, plan.record)?;
-    let end = run_over_disk(
-        rt.alloc(),
-        program,
-        config,
-        disk,
-        plan.run,
-        endpoints,
-        writer,
-        log,
-    );
-    end.done
-}
-
-/// Opens the socket of the node, and runs it. It types `text`.
-fn run_over_text<
-    H: Files<File = File> + Net + Clock + AllocGlobal + Copy + Drop,
-    W: ByteWriter,
-    E: Write,
->(
-    rt: &H,
-    program: &Program,
-    config: Config,
-    plan: &NodePlan<'_>,
-    text: &[u8],
-    writer: &mut W,
-    log: &mut Log<'_, H, E>,
-) -> Result<(), GroupFault>
-    ensures ends { RunsWith config program.now plan.now
-        (keyboard_at_first None text.now)
-        (W.contents writer.old) (W.contents writer.new) result }
-{
-    let watch = Watch::new(rt)?;
-    let wire = open_wire(rt, plan, watch, log)?;
-    let keyboard = Text { left: text };
-    let mut endpoints = Endpoints {
-        wire,
-        keyboard,
-        retries: 0,
-    };
-    run_over_file(rt, program, config, plan, &mut endpoints, writer, log)
-}
-
-/// Opens the sockets of the node and of its keyboard, and runs it. It types the bytes that come to
-/// `address` as datagrams.
-fn run_over_datagrams<
-    H: Files<File = File> + Net + Clock + AllocGlobal + Copy + Drop,
-    W: ByteWriter,
-    E: Write,
->(
-    rt: &H,
-    program: &Program,
-    config: Config,
-    plan: &NodePlan<'_>,
-    address: SocketAddr,
-    writer: &mut W,
-    log: &mut Log<'_, H, E>,
-) -> Result<(), GroupFault>
-    ensures ends { RunsWith config program.now plan.now
-        (keyboard_at_first (Some address) []) (W.contents writer.old)
-        (W.contents writer.new) result }
-{
-    let watch = Watch::new(rt)?;
-    let keyboard = open_keyboard(rt, address, &watch, log)?;
-    let wire = open_wire(rt, plan, watch, log)?;
-    let mut endpoints = Endpoints {
-        wire,
-        keyboard,
-        retries: 0,
-    };
-    run_over_file(rt, program, config, plan, &mut endpoints, writer, log)
-}
-
-/// Opens the sockets that the plan names, and runs the node. It types `text`, unless typed bytes
-/// come as datagrams.
-pub fn run_opened<
-    H: Files<File = File> + Net + Clock + AllocGlobal + Copy + Drop,
-    W: ByteWriter,
-    E: Write,
->(
-    rt: &H,
-    program: &Program,
-    config: Config,
-    plan: &NodePlan<'_>,
-    text: &[u8],
-    writer: &mut W,
-    log: &mut Log<'_, H, E>,
-) -> Result<(), GroupFault>
-    ensures ends { RunsOpened config program.now plan.now text.now
-        (W.contents writer.old) (W.contents writer.new) result }
-{
-    match plan.keys {
-        None => run_over_text(rt, program, config, plan, text, writer, log),
-        Some(address) => run_over_datagrams(rt, program, config, plan, address, writer, log),
-    }
 }

@@ -1,6 +1,6 @@
 //! A text that is typed at a node.
 use group_protocol::limits::MOST_WAITING;
-use group_udp::Keyboard;
+use node_io::Keyboard;
 
 /// A text that is typed at a node, as there is room for it.
 #[derive(Drop)]
@@ -11,7 +11,7 @@ pub struct Text<'a> {
 
 impl Keyboard for Text<'_> {
     ghost use Rattle.std.specs.Prelude.{true, Some};
-    ghost use Rattle.group_udp.specs.Prompts.{no_keys};
+    ghost use Rattle.node_io.specs.Prompts.{no_keys};
 
     // All of it is there, and nothing more comes.
     ghost keys = { λ t. record {

@@ -1,6 +1,6 @@
 use Rattle.std.proofs.Common.{inl, inr, ap}
 use Rattle.std.proofs.lemmas.Result.{err_from_is_err_and}
-use Rattle.group_udp.specs.declared.fault.GroupFault.TheVariants as group
+use Rattle.node_io.specs.declared.fault.GroupFault.TheVariants as group
 use Rattle.net_run.proofs.net.nodes.Goals as goal
 
 pub returns-in_err-config : goal.returns-in_err-config

@@ -1,6 +1,6 @@
 use Rattle.std.proofs.Common.{arith}
 use Rattle.std.proofs.lemmas.Result.{err_from_is_err_and}
-use Rattle.node_run.proofs.Going.{gift_both, gives_now}
+use Rattle.node_run.proofs.Course.{gift_both, gives_now}
 use Rattle.node_run.proofs.KeyboardAnswers.{answered_bytes, answered_request, asked_answered, bytes_answered, bytes_refused}
 use Rattle.node_run.proofs.answering.answer_keyboard.Goals as goal
 

@@ -1,7 +1,7 @@
 use Rattle.std.proofs.Common.{◌≡◌, ◌+◌, ◌≤◌, length, take, refl, arith, rules}
 use Rattle.std.proofs.lemmas.Grind.{common_steps}
 use Rattle.std.proofs.lemmas.Result.{err_from_is_err_and}
-use Rattle.node_run.proofs.Going.{left_given}
+use Rattle.node_run.proofs.Course.{left_given}
 use Rattle.node_run.proofs.KeyboardAnswers.{typed_all, typed_some}
 use Rattle.node_run.proofs.answering.type_given.Goals as goal
 

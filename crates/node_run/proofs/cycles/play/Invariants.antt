@@ -1,6 +1,6 @@
 use Rattle.std.proofs.Common.{◌≡◌, false}
 use Rattle.node_run.specs.Cycles.{AreCycles, run_moment}
-use Rattle.node_run.specs.Going.{around_of}
+use Rattle.node_run.specs.Course.{around_of}
 use Rattle.node_run.proofs.cycles.play.Given as goal
 
 -- as many cycles were made as turns were counted, and no write has failed

@@ -1,6 +1,6 @@
 use Rattle.std.proofs.Common.{arith, refl}
 use Rattle.node_run.proofs.Cycling.{heard_more, heard_none, heard_last}
-use Rattle.node_run.proofs.Going.{gift_both, gift_none}
+use Rattle.node_run.proofs.Course.{gift_both, gift_none}
 use Rattle.node_run.proofs.rest.rest.Goals as goal
 
 pub loop-init : goal.loop-init

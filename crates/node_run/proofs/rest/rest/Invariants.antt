@@ -1,5 +1,5 @@
 use Rattle.std.proofs.Common.{◌≡◌, [], false}
-use Rattle.group_udp.specs.Prompts.{GivesWhatCame}
+use Rattle.node_io.specs.Prompts.{GivesWhatCame}
 use Rattle.group_wire.specs.Turns.{SameReleased}
 use Rattle.node_run.proofs.Cycling.{HasHeardSome}
 use Rattle.node_run.proofs.rest.rest.Given as goal

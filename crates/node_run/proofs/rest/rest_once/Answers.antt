@@ -1,5 +1,5 @@
 use Rattle.std.proofs.Common.{rules}
-use Rattle.node_run.proofs.Going.{gift_none}
+use Rattle.node_run.proofs.Course.{gift_none}
 use Rattle.node_run.proofs.rest.rest_once.Goals as goal
 
 pub returns-in-Ok : goal.returns-in-Ok

@@ -1,5 +1,5 @@
 use Rattle.node_run.proofs.Cycling.{heard_none}
-use Rattle.node_run.proofs.Going.{gift_both, gift_none}
+use Rattle.node_run.proofs.Course.{gift_both, gift_none}
 use Rattle.node_run.proofs.rest.rest_unless_busy.Goals as goal
 
 pub returns-then-is_busy-clause-looks : goal.returns-then-is_busy-clause-looks

@@ -1,4 +1,4 @@
-use Rattle.node_run.proofs.Going.{gift_none}
+use Rattle.node_run.proofs.Course.{gift_none}
 use Rattle.node_run.proofs.rest.wait.Goals as goal
 
 pub returns-in-Over-clause-looks : goal.returns-in-Over-clause-looks

@@ -1,4 +1,4 @@
-use Rattle.group_udp.specs.Prompts.{no_keys}
+use Rattle.node_io.specs.Prompts.{no_keys}
 use Rattle.group_udp.proofs.Typing.{none_came}
 use Rattle.group_udp.proofs.typed.TypedDatagrams.take_in.Goals as goal
 

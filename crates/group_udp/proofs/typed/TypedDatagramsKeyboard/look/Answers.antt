@@ -1,5 +1,5 @@
 use Rattle.std.proofs.Common.{◌∙◌, ap, refl}
-use Rattle.group_udp.specs.Prompts.{no_keys, with_more}
+use Rattle.node_io.specs.Prompts.{no_keys, with_more}
 use Rattle.group_udp.proofs.Typing.{came_twice, none_came, takes_in}
 use Rattle.group_udp.proofs.typed.TypedDatagramsKeyboard.look.Goals as goal
 

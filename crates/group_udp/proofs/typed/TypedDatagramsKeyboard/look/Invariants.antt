@@ -1,5 +1,5 @@
 use Rattle.std.proofs.Common.{◌≡◌}
-use Rattle.group_udp.specs.Prompts.{Remaining, with_more}
+use Rattle.node_io.specs.Prompts.{Remaining, with_more}
 use Rattle.group_udp.proofs.typed.TypedDatagramsKeyboard.look.Given as goal
 
 -- what the queue had, and what has come

@@ -1,5 +1,5 @@
 use Rattle.std.proofs.Common.{◌∙◌, length, ap}
-use Rattle.node_run.proofs.Going.{gift_front}
+use Rattle.node_run.proofs.Course.{gift_front}
 use Rattle.node_run.proofs.text.TextKeyboard.give.Goals as goal
 
 pub returns-clause-given : goal.returns-clause-given

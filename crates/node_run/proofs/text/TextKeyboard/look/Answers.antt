@@ -1,4 +1,4 @@
-use Rattle.node_run.proofs.Going.{gift_none}
+use Rattle.node_run.proofs.Course.{gift_none}
 use Rattle.node_run.proofs.text.TextKeyboard.look.Goals as goal
 
 pub returns : goal.returns

@@ -10,11 +10,11 @@ use Rattle.group_node.specs.States.{NodeState}
 use Rattle.group_wire.specs.Doings.{Fails, HasActed}
 use Rattle.group_wire.specs.Traffic.{Traffic}
 use Rattle.group_protocol.specs.declared.fault.NodeFault.TheVariants.{SerialSpent, Store}
-use Rattle.group_udp.specs.declared.fault.GroupFault.{GroupFault}
-use Rattle.group_udp.specs.declared.fault.GroupFault.TheVariants as group
-use Rattle.node_run.specs.Going.{Around, CampaignsIf, FailsAt, HasEnded, HasGone, HasGoneOn, HasReason, around, planned}
-use Rattle.group_udp.specs.Refusals.{IsCampaignRefusal}
-use Rattle.group_udp.specs.Prompts.{GivesWhatCame, HasGiven, KeyboardState, Remaining, before_gift, byte_in, campaigns_in, bytes_in, no_keys, taken_more, with_more}
+use Rattle.node_io.specs.declared.fault.GroupFault.{GroupFault}
+use Rattle.node_io.specs.declared.fault.GroupFault.TheVariants as group
+use Rattle.node_run.specs.Course.{Surroundings, CampaignsIf, FailsAt, HasEnded, MadeTurnsOrEnded, HasMadeTurns, HasReason, around, planned}
+use Rattle.node_io.specs.Refusals.{IsCampaignRefusal}
+use Rattle.node_io.specs.Prompts.{GivesWhatCame, HasGiven, KeyboardState, Remaining, before_gift, byte_in, campaigns_in, bytes_in, no_keys, taken_more, with_more}
 use Rattle.node_run.specs.Answering.{left_once_given}
 use Rattle.node_run.specs.Prompted.{IsPrompted, turns_in}
 
@@ -163,8 +163,8 @@ GoOn {S} kind = record {
 
 module _ {S : Type 0} {kind : StoreKind S} (laws : GoOn kind) where
   -- what was done, and then more
-  pub gone_then : {first : List Deed} {old mid new : NodeState S} {from via to : Around} {t u : ℕ} → HasGoneOn first old mid from via t
-      → HasGoneOn [] mid new via to u → HasGoneOn first old new from to (t + u)
+  pub gone_then : {first : List Deed} {old mid new : NodeState S} {from via to : Surroundings} {t u : ℕ}
+      → HasMadeTurns first old mid from via t → HasMadeTurns [] mid new via to u → HasMadeTurns first old new from to (t + u)
   gone_then {to = to} h k =
       let acts = laws.more _ _ _ _ _ _ _ _ h.acts k.acts in
       record {
@@ -176,8 +176,8 @@ module _ {S : Type 0} {kind : StoreKind S} (laws : GoOn kind) where
       }
 
   -- and then what a refusal ended
-  pub ended_then : {first : List Deed} {old mid new : NodeState S} {from via to : Around} {t u : ℕ} {e : GroupFault}
-      → HasGoneOn first old mid from via t → HasEnded kind [] mid new via to u e → HasEnded kind first old new from to (t + u) e
+  pub ended_then : {first : List Deed} {old mid new : NodeState S} {from via to : Surroundings} {t u : ℕ} {e : GroupFault}
+      → HasMadeTurns first old mid from via t → HasEnded kind [] mid new via to u e → HasEnded kind first old new from to (t + u) e
   ended_then {to = to} h k = record {
     gift = h.gift ++ k.gift;
     prompts = h.prompts ++ k.prompts;
@@ -193,7 +193,7 @@ module _ {S : Type 0} {kind : StoreKind S} (laws : GoOn kind) where
 -- these prompts, while nothing was taken from the keyboard
 pub gone_unprompted : {S : Type 0} {first : List Deed} {old new : NodeState S} {from to : Option Traffic} {keys left : KeyboardState}
     {retries : ℕ} → HasActed old new from to first → GivesWhatCame keys [] left
-    → HasGoneOn first old new (around from keys retries) (around to left retries) 0
+    → HasMadeTurns first old new (around from keys retries) (around to left retries) 0
 gone_unprompted {first = first} acts looks =
     record { gift = []; prompts = []; given = looks; acts = rw (append-nil first) acts; prompted = prompted_none }
 
@@ -226,9 +226,9 @@ is_store (group.Node Store) = inl refl
 is_store e = inr (λ is. absurd cc)
 
 -- a refusal that no save caused ends what was done
-pub gone_ended : {S : Type 0} {kind : StoreKind S} {first : List Deed} {old new : NodeState S} {from to : Around} {turns : ℕ}
+pub gone_ended : {S : Type 0} {kind : StoreKind S} {first : List Deed} {old new : NodeState S} {from to : Surroundings} {turns : ℕ}
     {e : GroupFault}
-    → HasGoneOn first old new from to turns → e ≢ group.Node Store → HasReason e new.protocol.known
+    → HasMadeTurns first old new from to turns → e ≢ group.Node Store → HasReason e new.protocol.known
     → HasEnded kind first old new from to turns e
 gone_ended h other due = grind (arith, h.gift, h.prompts)
 
@@ -237,8 +237,9 @@ gone_ended h other due = grind (arith, h.gift, h.prompts)
 -- the cycles after it, by their answer
 pub begun_by : {S : Type 0} {kind : StoreKind S} (laws : GoOn kind) {old mid : NodeState S} {t u : Option Traffic} {first : List Deed}
     (new : NodeState S) (keys : KeyboardState) (retries : ℕ)
-    (to : Around) (turns : ℕ) (result : Result (Unit {0}) GroupFault) → HasActed old mid t u first
-    → HasGone kind [] mid new (around u keys retries) to turns result → HasGone kind first old new (around t keys retries) to turns result
+    (to : Surroundings) (turns : ℕ) (result : Result (Unit {0}) GroupFault) → HasActed old mid t u first
+    → MadeTurnsOrEnded kind [] mid new (around u keys retries) to turns result
+    → MadeTurnsOrEnded kind first old new (around t keys retries) to turns result
 begun_by laws new keys retries to turns (Ok x) begun h = rw zero-add at (gone_then laws (gone_unprompted begun (gift_none keys)) h)
 begun_by laws new keys retries to turns (Err e) begun h = inl (elim h [
   | inl k ↦ (k.0, k.1, rw zero-add at (ended_then laws (gone_unprompted begun (gift_none keys)) k.2))
@@ -248,7 +249,7 @@ begun_by laws new keys retries to turns (Err e) begun h = inl (elim h [
 -- a campaign of the plan that was refused
 pub campaign_refused : {S : Type 0} {kind : StoreKind S} {old new : NodeState S} {t u : Option Traffic} {keys : KeyboardState}
     {retries : ℕ} {asked : Bool} {turns : ℕ} {e : GroupFault} → CampaignsIf kind asked old new t u (Err e) → IsCampaignRefusal e
-    → HasGone {T = Unit {0}} kind (planned asked) old new (around t keys retries) (around u keys retries) turns (Err e)
+    → MadeTurnsOrEnded {T = Unit {0}} kind (planned asked) old new (around t keys retries) (around u keys retries) turns (Err e)
 campaign_refused {old = old} {new} {t} {u} {keys} {asked} {e = e} (is, fails, acts, due) refusal = elim (is_store e) [
   | inl store ↦
       inl (0, omega arith, ended_unprompted (gift_none keys) (λ s. rw is (fails s)) (λ other. absurd (other store)) due)

@@ -1,14 +1,14 @@
 //! The command `node`: one node of a group on UDP, over a record in a file.
 ghost use Rattle.std.specs.Prelude.{IfErr, IfOk};
 ghost use Rattle.machine_run.specs.Files.{IsFileRefusal, IsLoadedProgram};
-ghost use Rattle.node_run.specs.Ends.{EndsLoaded, EndsNode, IsTypedText, IsRefusedInput};
+ghost use Rattle.node_udp.specs.Ends.{EndsLoaded, EndsNode, IsTypedText, IsRefusedInput};
 
-use crate::cycles::RunPlan;
-use crate::run::run_opened;
+use crate::over_file::run_opened;
 use group_log::{Log, LogLevel, Note, ProcessEnd};
 use group_node::{Config, NodeFault};
-use group_udp::GroupFault;
 use machine_run::{ByteWriter, MachineRefusal, load_file, read_whole};
+use node_io::GroupFault;
+use node_run::RunPlan;
 use paxos_msg::Group;
 use pcode_ops::Program;
 use std::alloc::Global;

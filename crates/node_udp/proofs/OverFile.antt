@@ -13,9 +13,9 @@ use Rattle.group_node.specs.Starting.{StartsAfter, StartsByLoad}
 use Rattle.group_node.specs.NodeCalls.{running}
 use Rattle.group_node.specs.States.{NodeState}
 use Rattle.group_wire.specs.Starts.{HasStarted, LacksOutbox}
-use Rattle.group_udp.specs.declared.fault.GroupFault.{GroupFault}
+use Rattle.node_io.specs.declared.fault.GroupFault.{GroupFault}
 use Rattle.node_run.specs.declared.cycles.RunPlan.{RunPlan}
-use Rattle.node_run.specs.Going.{Around}
+use Rattle.node_run.specs.Course.{Surroundings}
 use Rattle.node_run.specs.Runs.{CyclesOrRefuses, RunsInCycles, RunsNode, RunsOrRefuses}
 
 module _ {D : Type 0} (folder_of : D → Folder) (me : Me) (program : Parts) where
@@ -72,7 +72,7 @@ module _ {D : Type 0} (folder_of : D → Folder) (me : Me) (program : Parts) whe
     others = h.others;
   }
 
-  node_ran : {store end : LogState D} {plan : RunPlan} {from to : Around} {before after : Option (List ℕ)}
+  node_ran : {store end : LogState D} {plan : RunPlan} {from to : Surroundings} {before after : Option (List ℕ)}
       {result : Result (Unit {0}) GroupFault}
       → RunsNode (disk_kind ⊥ folder_of) me program store end plan from to before after result
       → RunsNode file_kind me program store.filed end.filed plan from to before after result
@@ -106,12 +106,12 @@ module _ {D : Type 0} (folder_of : D → Folder) (me : Me) (program : Parts) whe
 
   -- a run in cycles is one of a process
   abbrev AreRun : Type 0
-  AreRun = (me : Me) (program : Parts) (store end : LogState D) (plan : RunPlan) (from to : Around) (before after : Option (List ℕ))
+  AreRun = (me : Me) (program : Parts) (store end : LogState D) (plan : RunPlan) (from to : Surroundings) (before after : Option (List ℕ))
       (result : Result (Unit {0}) GroupFault)
       (h : RunsInCycles (disk_kind ⊥ folder_of) me program store end plan from to before after result)
       → (run : RunsNode (disk_kind ⊥ folder_of) me program store end plan from to before after result) × (run.last ≡ running h.final)
 
-  pub over_file : AreRun → {store end : LogState D} {plan : RunPlan} {from to : Around} {before after : Option (List ℕ)}
+  pub over_file : AreRun → {store end : LogState D} {plan : RunPlan} {from to : Surroundings} {before after : Option (List ℕ)}
       {result : Result (Unit {0}) GroupFault}
       → CyclesOrRefuses (disk_kind ⊥ folder_of) me program store end plan from to before after result
       → RunsOrRefuses file_kind me program store.filed end.filed plan from to before after result

@@ -21,7 +21,7 @@ pub enum GroupFault {
 
 impl From<MachineRefusal> for GroupFault {
     ghost use Rattle.std.specs.Prelude.{◌≡◌};
-    ghost use Rattle.group_udp.specs.declared.fault.GroupFault.TheVariants.{Machine};
+    ghost use Rattle.node_io.specs.declared.fault.GroupFault.TheVariants.{Machine};
 
     ghost from_gives = { λ refusal e. e ≡ Machine refusal };
 
@@ -33,7 +33,7 @@ impl From<MachineRefusal> for GroupFault {
 impl From<RunIo> for GroupFault {
     ghost use Rattle.std.specs.Prelude.{◌≡◌};
     ghost use Rattle.machine_run.specs.declared.refusal.MachineRefusal.TheVariants.{Run};
-    ghost use Rattle.group_udp.specs.declared.fault.GroupFault.TheVariants.{Machine};
+    ghost use Rattle.node_io.specs.declared.fault.GroupFault.TheVariants.{Machine};
 
     ghost from_gives = { λ fault e. e ≡ Machine (Run fault) };
 
@@ -44,7 +44,7 @@ impl From<RunIo> for GroupFault {
 
 impl From<NodeFault> for GroupFault {
     ghost use Rattle.std.specs.Prelude.{◌≡◌};
-    ghost use Rattle.group_udp.specs.declared.fault.GroupFault.TheVariants as group;
+    ghost use Rattle.node_io.specs.declared.fault.GroupFault.TheVariants as group;
 
     ghost from_gives = { λ fault e. e ≡ group.Node fault };
 
@@ -55,7 +55,7 @@ impl From<NodeFault> for GroupFault {
 
 impl<S: Drop> From<StartRefused<S>> for GroupFault {
     ghost use Rattle.std.specs.Prelude.{◌≡◌};
-    ghost use Rattle.group_udp.specs.declared.fault.GroupFault.TheVariants as group;
+    ghost use Rattle.node_io.specs.declared.fault.GroupFault.TheVariants as group;
 
     ghost from_gives = { λ refused e. e ≡ group.Node refused.fault };
 
@@ -66,7 +66,7 @@ impl<S: Drop> From<StartRefused<S>> for GroupFault {
 
 impl From<AllocError> for GroupFault {
     ghost use Rattle.std.specs.Prelude.{◌≡◌};
-    ghost use Rattle.group_udp.specs.Refusals.{no_memory};
+    ghost use Rattle.node_io.specs.Refusals.{no_memory};
 
     ghost from_gives = { λ _ e. e ≡ no_memory };
 
@@ -77,7 +77,7 @@ impl From<AllocError> for GroupFault {
 
 impl<T: Drop> From<AllocFailed<T>> for GroupFault {
     ghost use Rattle.std.specs.Prelude.{◌≡◌};
-    ghost use Rattle.group_udp.specs.Refusals.{no_memory};
+    ghost use Rattle.node_io.specs.Refusals.{no_memory};
 
     ghost from_gives = { λ _ e. e ≡ no_memory };
 

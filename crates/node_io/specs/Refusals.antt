@@ -4,9 +4,9 @@ use Rattle.group_protocol.specs.declared.fault.NodeFault.TheVariants.{SerialSpen
 use Rattle.group_protocol.specs.declared.fault.NodeFault.TheVariants as fault
 use Rattle.machine_run.specs.declared.refusal.MachineRefusal.TheVariants.{Run}
 use Rattle.machine_run.specs.declared.run.RunIo.TheVariants.{Memory, Write}
-use Rattle.group_udp.specs.declared.fault.GroupFault.{GroupFault}
-use Rattle.group_udp.specs.declared.fault.GroupFault.TheVariants.{Machine}
-use Rattle.group_udp.specs.declared.fault.GroupFault.TheVariants as group
+use Rattle.node_io.specs.declared.fault.GroupFault.{GroupFault}
+use Rattle.node_io.specs.declared.fault.GroupFault.TheVariants.{Machine}
+use Rattle.node_io.specs.declared.fault.GroupFault.TheVariants as group
 
 -- The refusal of a byte that could not be written.
 abbrev pub write_failed : GroupFault

@@ -9,29 +9,29 @@ use Rattle.group_node.specs.States.{NodeState}
 use Rattle.paxos_msg.specs.declared.limits.TheConstants.{LAST_ROUND, LAST_SERIAL, PLACES}
 use Rattle.group_wire.specs.Doings.{Fails, HasActed}
 use Rattle.group_wire.specs.Traffic.{Traffic}
-use Rattle.group_udp.specs.declared.fault.GroupFault.{GroupFault}
-use Rattle.group_udp.specs.declared.fault.GroupFault.TheVariants as group
-use Rattle.group_udp.specs.Refusals.{IsCampaignRefusal}
-use Rattle.group_udp.specs.Prompts.{GivesWhatCame, KeyboardState}
+use Rattle.node_io.specs.declared.fault.GroupFault.{GroupFault}
+use Rattle.node_io.specs.declared.fault.GroupFault.TheVariants as group
+use Rattle.node_io.specs.Refusals.{IsCampaignRefusal}
+use Rattle.node_io.specs.Prompts.{GivesWhatCame, KeyboardState}
 use Rattle.node_run.specs.Prompted.{IsPrompted}
 use Rattle.node_run.specs.declared.endpoints.Endpoints.{Endpoints}
 
 -- What is around a node: what has passed over its wire, where that is known, its keyboard, and how
 -- often it may campaign again for the last request.
-pub record Around : Type 0 where
+pub record Surroundings : Type 0 where
   pub traffic : Option Traffic
   pub keyboard : KeyboardState
   pub retries : ℕ
 
 -- These three, put together.
-abbrev pub around : Option Traffic → KeyboardState → ℕ → Around
+abbrev pub around : Option Traffic → KeyboardState → ℕ → Surroundings
 around traffic keyboard retries =
     record { traffic = traffic; keyboard = keyboard; retries = retries }
 
 -- What is around a node by its endpoints. The two functions tell what has passed over a wire, and
 -- what a keyboard has left.
 abbrev pub around_of : {T K : Type 0} → (T → Option Traffic) → (K → KeyboardState) → Endpoints T K
-    → Around
+    → Surroundings
 around_of traffic_of keys_of endpoints =
     around (traffic_of endpoints.wire) (keys_of endpoints.keyboard) endpoints.retries
 
@@ -50,8 +50,8 @@ HasReason _ n = Unit {0}
 
 -- What a node did in so many turns, after the prompts `first`: its deeds have these and those of
 -- its keyboard, and exactly what passes in them has passed over its wire.
-pub record HasGoneOn {S : Type 0} (first : List Deed) (old new : NodeState S) (from to : Around)
-    (turns : ℕ) : Type 0 where
+pub record HasMadeTurns {S : Type 0} (first : List Deed) (old new : NodeState S)
+    (from to : Surroundings) (turns : ℕ) : Type 0 where
   pub gift : List Deed
   pub prompts : List Deed
   pub given : GivesWhatCame from.keyboard gift to.keyboard
@@ -60,7 +60,7 @@ pub record HasGoneOn {S : Type 0} (first : List Deed) (old new : NodeState S) (f
 
 -- What it did up to a refusal. Exactly if a save failed, its last deed is the one that failed.
 pub record HasEnded {S : Type 0} (kind : StoreKind S) (first : List Deed) (old new : NodeState S)
-    (from to : Around) (turns : ℕ) (e : GroupFault) : Type 0 where
+    (from to : Surroundings) (turns : ℕ) (e : GroupFault) : Type 0 where
   pub gift : List Deed
   pub prompts : List Deed
   pub given : GivesWhatCame from.keyboard gift to.keyboard
@@ -73,10 +73,10 @@ pub record HasEnded {S : Type 0} (kind : StoreKind S) (first : List Deed) (old n
 
 -- What a node did, by the answer: so many turns at `Ok`, and at most so many up to a refusal. Where
 -- its campaign does not begin it has done nothing.
-abbrev pub HasGone : {S T : Type 0} → StoreKind S → List Deed → NodeState S → NodeState S → Around
-    → Around → ℕ → Result T GroupFault → Type 0
-HasGone kind first old new from to turns (Ok x) = HasGoneOn first old new from to turns
-HasGone kind first old new from to turns (Err e) =
+abbrev pub MadeTurnsOrEnded : {S T : Type 0} → StoreKind S → List Deed → NodeState S → NodeState S
+    → Surroundings → Surroundings → ℕ → Result T GroupFault → Type 0
+MadeTurnsOrEnded kind first old new from to turns (Ok x) = HasMadeTurns first old new from to turns
+MadeTurnsOrEnded kind first old new from to turns (Err e) =
     ((done : ℕ) × (done ≤ turns) × HasEnded kind first old new from to done e)
     ⊎ ((e ≢ group.Node Store) × IsCampaignRefusal e × HasEnded kind [] old new from to 0 e)
 

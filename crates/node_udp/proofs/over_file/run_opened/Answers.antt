@@ -1,6 +1,6 @@
 use Rattle.std.proofs.Common.{None, Some}
-use Rattle.node_run.proofs.Running.{opened}
-use Rattle.node_run.proofs.run.run_opened.Goals as goal
+use Rattle.node_udp.proofs.Opened.{opened}
+use Rattle.node_udp.proofs.over_file.run_opened.Goals as goal
 
 pub returns-in-None : goal.returns-in-None
 returns-in-None g c = record { ends = opened c.args.plan.now c.args.text.now None c.in-None.is c.run_over_text.ensures.ends }

@@ -12,12 +12,12 @@ use Rattle.machine_run.specs.declared.refusal.MachineRefusal.TheVariants.{Run}
 use Rattle.machine_run.specs.declared.run.RunIo.{RunIo}
 use Rattle.machine_run.specs.declared.run.RunIo.TheVariants.{Write}
 use Rattle.machine_run.specs.Files.{HasReadAll, HasReadFront, IsFileRefusal, IsLoadedProgram}
-use Rattle.group_udp.specs.declared.fault.GroupFault.{GroupFault}
-use Rattle.group_udp.specs.declared.fault.GroupFault.TheVariants as group
-use Rattle.node_run.specs.declared.node.NodePlan.{NodePlan}
-use Rattle.node_run.specs.Going.{around}
-use Rattle.group_udp.specs.Prompts.{KeyboardState, no_keys}
-use Rattle.group_udp.specs.Refusals.{IsOpenRefusal, no_memory}
+use Rattle.node_io.specs.declared.fault.GroupFault.{GroupFault}
+use Rattle.node_io.specs.declared.fault.GroupFault.TheVariants as group
+use Rattle.node_udp.specs.declared.node.NodePlan.{NodePlan}
+use Rattle.node_run.specs.Course.{around}
+use Rattle.node_io.specs.Prompts.{KeyboardState, no_keys}
+use Rattle.node_io.specs.Refusals.{IsOpenRefusal, no_memory}
 use Rattle.node_run.specs.Runs.{RunsOrRefuses}
 
 -- A refusal at which nothing was written.

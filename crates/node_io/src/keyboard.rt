@@ -2,7 +2,7 @@
 ghost use Rattle.std.specs.Prelude.{◌≡◌, ◌↔◌, ◌+◌, ◌-◌, ◌<◌, ◌≤◌, [], ◌∷◌, length, min, IsTrue, if◌then◌else◌, map, take};
 ghost use Rattle.group_protocol.specs.declared.limits.TheConstants.{MOST_WAITING};
 ghost use Rattle.group_node.specs.Deeds.{Campaign, Press};
-ghost use Rattle.group_udp.specs.Prompts.{GivesWhatCame, HasGiven, KeyboardState};
+ghost use Rattle.node_io.specs.Prompts.{GivesWhatCame, HasGiven, KeyboardState};
 
 use group_protocol::limits::MOST_WAITING;
 

@@ -1,6 +1,6 @@
 use Rattle.std.proofs.Common.{inr}
-use Rattle.node_run.proofs.OverFile.{over_file}
-use Rattle.node_run.proofs.run.run_over_file.Goals as goal
+use Rattle.node_udp.proofs.OverFile.{over_file}
+use Rattle.node_udp.proofs.over_file.run_over_file.Goals as goal
 
 pub returns : goal.returns
 returns g c = record {

@@ -1,5 +1,5 @@
 use Rattle.std.proofs.Common.{◌≡◌, inr, rules}
-use Rattle.node_run.proofs.node.node_loaded.Goals as goal
+use Rattle.node_udp.proofs.node.node_loaded.Goals as goal
 
 pub returns : goal.returns
 returns g c =

@@ -1,0 +1,2 @@
+pub mod Prompts
+pub mod Refusals

@@ -1,0 +1,2 @@
+mod OverFile
+mod Opened
