@@ -8,6 +8,7 @@ import os
 import re
 import shutil
 import subprocess
+import sys
 
 from ..checks import Checks
 from ..files import bytes_of, file_with
@@ -96,12 +97,13 @@ def flip(path, offset):
 
 
 def make_commands(room):
-    """Folders for PATH: the commands of a machine without the toolchain, a stand-in for rt, and a
-    uname of another machine."""
-    for name in ("plain", "rt", "arm", "tmp"):
+    """Folders for PATH: the commands of a machine without the toolchain, a stand-in for rt,
+    python3, and a uname of another machine."""
+    for name in ("plain", "rt", "python", "arm", "tmp"):
         os.mkdir(os.path.join(room, name))
     for name in COMMANDS:
         os.symlink(shutil.which(name), os.path.join(room, "plain", name))
+    os.symlink(sys.executable, os.path.join(room, "python", "python3"))
     script_at(os.path.join(room, "arm", "uname"), UNAME)
     script_at(os.path.join(room, "rt", "rt"), RT)
 
@@ -113,7 +115,7 @@ def make_origin(origin):
     found += glob.glob(os.path.join(TOP, "crates", "*", "src", "main.rt"))
     names = [os.path.relpath(it, TOP) for it in found]
     names += ["run", "test", "crates.txt", "HANDLES", "crates/base/specs/Lib.antt"]
-    names += ["tools/bash/sources.bash", "tools/bash/provide.bash"]
+    names += ["tools/bash/sources.bash", "tools/bash/provide.bash", ".ci/basis"]
     for name in names:
         os.makedirs(os.path.dirname(os.path.join(origin, name)), exist_ok=True)
         shutil.copy(os.path.join(TOP, name), os.path.join(origin, name))
@@ -140,6 +142,7 @@ class Clone(Checks):
         self.tree, self.log = self.at("tree"), self.at("log")
         self.plain = self.at("plain")
         self.with_rt = f"{self.at('rt')}:{self.plain}"
+        self.with_python = f"{self.at('python')}:{self.with_rt}"
         self.clone()
 
     def at(self, name):

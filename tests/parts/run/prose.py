@@ -1,5 +1,5 @@
-"""What docs/check says of pages that are too long, of lines that are too wide, and of links that
-lead nowhere: of pages that are made here."""
+"""What docs/check says of pages that are too long, of lines that are too wide, of links that lead
+nowhere, and of sources that a page shows: of pages that are made here."""
 
 import os
 import sys
@@ -8,7 +8,7 @@ from ..checks import Checks
 from ..program import TOP
 
 sys.path.insert(0, os.path.join(TOP, "docs"))
-from checking import lengths, links, tree, wrapped
+from checking import lengths, links, pages, tree, wrapped
 
 WORD = "word "
 
@@ -108,3 +108,41 @@ class OfLengths(OfPages):
             self.assertEqual(self.faults(lengths.check), [
                 f"README.md and docs: have {lengths.MOST + 6} words that a person writes, more "
                 f"than {lengths.MOST}"])
+
+
+LAW = "pub fn law()\n    ensures one { A }\n    ensures two { B }\n{}\n"
+SPEC = "record R : Type 0 where\n  pub one : A\n  pub two : B\n\nabbrev S = R\n"
+
+
+class OfParts(OfPages):
+    """What a page shows of sources."""
+
+    def said(self, path, part):
+        for page in pages.WITH_PARTS:
+            self.put(page, f"```text\n-- {path}\n{part}```\n")
+        page = pages.WITH_PARTS[0]
+        return [it for it in self.faults(pages.check_contracts_shown) if it.startswith(page)]
+
+    def test_parts(self):
+        law, spec, page = "crates/a/src/laws.rt", "crates/a/specs/A.antt", pages.WITH_PARTS[0]
+        self.put(law, LAW)
+        self.put(spec, SPEC)
+        other = f"{page}: a part that it shows is not in "
+        for what, path, part, says in (
+            ("a whole contract", law, LAW[:-3], []),
+            ("a contract without its last clause", law, LAW[:LAW.index("    ensures two")],
+             [f"{page}: what it shows of {law} goes on there"]),
+            ("another contract", law, LAW[:-3].replace("A", "C"), [other + law]),
+            ("lines of a body", law, "{}\n", []),
+            ("a whole definition", spec, SPEC[:SPEC.index("\nabbrev")], []),
+            ("the last definition", spec, "abbrev S = R\n", []),
+            ("a definition without its last field", spec, SPEC[:SPEC.index("  pub two")],
+             [f"{page}: what it shows of {spec} goes on there"]),
+            ("another definition", spec, "abbrev S = Q\n", [other + spec]),
+        ):
+            with self.check(f"a page shows {what}"):
+                self.assertEqual(self.said(path, part), says)
+        with self.check("a page shows nothing"):
+            self.put(page, "# A page\n")
+            self.assertIn(f"{page}: it shows no part of a source",
+                          self.faults(pages.check_contracts_shown))
