@@ -135,9 +135,13 @@ def start_all(group):
         await_that(it.is_up, f"node {it.number} is up")
 
 
-def last_leader(group):
-    """Returns the one of these whose node began to lead last, by what the nodes say."""
-    ballots = re.findall(r" node \d leads ballot (\d+)\.(\d)\n", "".join(it.said() for it in group))
+def last_leader(group, session=None):
+    """Returns the one of these whose node began to lead last, by what the nodes say, or have said
+    in a session."""
+    said = [it.said() for it in group]
+    if session is not None:
+        said = [it.partition(f" session {session} ")[2] for it in said]
+    ballots = re.findall(r" node \d leads ballot (\d+)\.(\d)\n", "".join(said))
     number = max((int(it), int(node)) for it, node in ballots)[1]
     return group[number - 1]
 
