@@ -29,17 +29,28 @@ def check_rust_shown():
 
 
 # The pages that show parts of sources, each in a fence whose first line names the source.
-WITH_PARTS = ("docs/READING.md", "docs/BEGIN.md")
+WITH_PARTS = ("docs/READING.md", "docs/BEGIN.md", "docs/THEOREM.md")
 PART = re.compile(r"^```\w+\n(?://|--|#) (crates/\S+)\n(.*?)^```$", re.M | re.S)
 
 
+def is_whole(path, part, rest):
+    """Whether what a page shows of a source ends where a contract or a definition ends: behind a
+    contract comes the body, and behind a definition an empty line. `rest` is what comes behind."""
+    if " ensures " in part:
+        return rest.lstrip().startswith("{")
+    return not path.endswith(".antt") or rest[:1] in ("", "\n")
+
+
 def check_contracts_shown():
-    """Each part of a source that these pages show stands so in the source."""
+    """Each part of a source that these pages show stands so in the source, and is whole."""
     for page in WITH_PARTS:
         shown = PART.findall(text_of(page))
         for path, part in shown:
-            if part not in text_of(path):
+            _, found, rest = text_of(path).partition(part)
+            if not found:
                 fault(f"{page}: a part that it shows is not in {path}")
+            elif not is_whole(path, part, rest):
+                fault(f"{page}: what it shows of {path} goes on there")
         if not shown:
             fault(f"{page}: it shows no part of a source")
 

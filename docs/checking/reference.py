@@ -14,7 +14,7 @@ MAIN, BY_TESTS = "main_theorem", "by_tests"
 HEAD = {
     MAIN: """# The main theorem, clause by clause
 
-[PROMISES](../PROMISES.md#the-main-theorem) has the theorem in words.
+[THEOREM](../THEOREM.md#the-sentence) has the theorem, in words and word for word.
 """,
     BY_TESTS: """# By tests alone
 

@@ -181,7 +181,7 @@ class Crate:
         for it in way:
             ways = {"crate": (), "self": home, "super": home[:-1]}
             home = ways.get(it, (*home, it))
-        if home not in self.texts and way[0] in tree.all_crates():
+        if home not in self.texts and way[0] in tree.used_by(self.name):
             yield f"{shown} = {path}"
             return
         lines = []

@@ -32,6 +32,12 @@ def all_crates():
     return re.findall(r"^([a-z_0-9]+)(?: [^:]*)?:", text_of("crates.txt"), re.M)
 
 
+def used_by(crate):
+    """The crates that this one names in crates.txt, also those of the toolchain."""
+    line = re.search(rf"^{crate}(?: [^:]*)?:(.*)$", text_of("crates.txt"), re.M)
+    return line[1].split() if line else []
+
+
 def crates():
     """The crates without those of tests, which export nothing."""
     return [it for it in all_crates() if not it.endswith("_tests")]
