@@ -84,11 +84,11 @@ def put_scripts(tree):
     found = glob.glob(f"{shared}/*.py", recursive=True) + glob.glob(f"{shared}/static/*")
     for path in sorted(set(found)):
         tree.copy(path, f"{LIBRARY}/tools/{os.path.relpath(path, manual.TOOLS)}")
-    for name in ("console", "tools/bash/provide.bash"):
+    for name in ("tools/console", "tools/bash/provide.bash"):
         tree.copy(os.path.join(TOP, name), f"{LIBRARY}/{name}")
     tree.link(f"{LIBRARY}/run", f"{LIBRARY}/pgroup")
     for name in SCRIPTS:
-        where = "console" if name == "console" else f"tools/group/{name}"
+        where = "tools/console" if name == "console" else f"tools/group/{name}"
         tree.link(f"bin/pgroup-{name}", f"{LIBRARY}/{where}")
 
 

@@ -1,6 +1,6 @@
 """Man pages, made from the help texts: of the program's commands from what they print, and of the
 scripts from their own text and the words that they take. So a page says nothing that help does not.
-docs/man has them, and docs/check refuses a page that is another one."""
+docs/man has them, and tools/check-docs refuses a page that is another one."""
 
 import argparse
 import importlib
@@ -216,7 +216,7 @@ def assembler_page():
 
 def console_page():
     """The page of the script `console`."""
-    words = [os.path.join(TOP, "console"), "--help"]
+    words = [os.path.join(TOOLS, "console"), "--help"]
     text = subprocess.run(words, check=True, capture_output=True).stdout.decode()
     about, _, more = text.partition("\n\n")
     first, _, rest = " ".join(about.split()).partition(": ")

@@ -2,7 +2,7 @@
 use crate::conclusion::{Conclusion, Refusal};
 use crate::datagram::show;
 use crate::environment::{if_said, is_log_asked, level_asked, trace_asked};
-use command_words::{Asked, NodeWords};
+use command_arguments::{NodeArguments, Request};
 use group_log::LogLevel;
 use group_sim::{ScriptRefusal, sim_file};
 use machine_frozen::write_frozen;
@@ -78,38 +78,48 @@ fn run_plan<
     Conclusion::of_done(node_file(rt, file, plan, reader, &mut writer, errors))
 }
 
-/// Returns the plan of the words of `node`, with the log and the trace that the environment asks
-/// for.
-fn plan_of<'a>(words: &'a NodeWords<'a>, trace: Option<&'a str>, log: LogLevel) -> NodePlan<'a> {
+/// Returns the plan of the arguments of `node`, with the log and the trace that the environment
+/// asks for.
+fn plan_of<'a>(
+    arguments: &'a NodeArguments<'a>,
+    trace: Option<&'a str>,
+    log: LogLevel,
+) -> NodePlan<'a> {
     NodePlan {
-        node: words.node,
+        node: arguments.node,
         group: Group {
-            size: words.size,
-            session: words.session,
+            size: arguments.size,
+            session: arguments.session,
         },
-        record: words.record,
-        addresses: words.addresses.as_slice(),
+        record: arguments.record,
+        addresses: arguments.addresses.as_slice(),
         run: RunPlan {
-            turns: words.turns,
-            seen: words.seen,
-            campaigns: words.campaigns,
+            turns: arguments.turns,
+            seen: arguments.seen,
+            campaigns: arguments.campaigns,
         },
-        keys: words.keys,
+        keys: arguments.keys,
         trace,
         log,
     }
 }
 
-/// Runs the node of the words of `node`.
+/// Runs the node of the arguments of `node`.
 fn node<
     H: Files<File = File> + Net + Clock + Env + AllocGlobal + Copy + Drop,
     R: Read,
     W: Write,
     E: Write,
->(rt: &H, words: &NodeWords<'_>, reader: &mut R, writer: &mut W, errors: &mut E) -> Conclusion {
+>(
+    rt: &H,
+    arguments: &NodeArguments<'_>,
+    reader: &mut R,
+    writer: &mut W,
+    errors: &mut E,
+) -> Conclusion {
     let asked = trace_asked(rt);
-    let plan = plan_of(words, if_said(asked.as_str()), level_asked(rt));
-    run_plan(rt, words.file, &plan, reader, writer, errors)
+    let plan = plan_of(arguments, if_said(asked.as_str()), level_asked(rt));
+    run_plan(rt, arguments.file, &plan, reader, writer, errors)
 }
 
 /// Does what is asked. Returns how that ended.
@@ -118,24 +128,24 @@ pub fn perform<
     R: Read,
     W: Write,
     E: Write,
->(rt: &H, asked: &Asked<'_>, reader: &mut R, writer: &mut W, errors: &mut E) -> Conclusion {
+>(rt: &H, asked: &Request<'_>, reader: &mut R, writer: &mut W, errors: &mut E) -> Conclusion {
     match *asked {
-        Asked::Check { file } => Conclusion::of_done(check_file(rt, file, writer)),
-        Asked::List { file } => Conclusion::of_done(list_file(rt, file, writer)),
-        Asked::Run { file, steps } => run(rt, file, steps, reader, writer),
-        Asked::State { file, steps } => {
+        Request::Check { file } => Conclusion::of_done(check_file(rt, file, writer)),
+        Request::List { file } => Conclusion::of_done(list_file(rt, file, writer)),
+        Request::Run { file, steps } => run(rt, file, steps, reader, writer),
+        Request::State { file, steps } => {
             Conclusion::of_state(write_state(rt, file, steps, reader, writer))
         }
-        Asked::Frozen { file, steps } => {
+        Request::Frozen { file, steps } => {
             Conclusion::of_state(write_frozen(rt, file, steps, reader, writer))
         }
-        Asked::Show {
+        Request::Show {
             size,
             session,
             digits,
         } => Conclusion::of_show(show(rt.alloc(), Group { size, session }, digits, writer)),
-        Asked::Sim { file, script } => Conclusion::of_done(sim(rt, file, script, writer)),
-        Asked::Net { file, size, turns } => {
+        Request::Sim { file, script } => Conclusion::of_done(sim(rt, file, script, writer)),
+        Request::Net { file, size, turns } => {
             let plan = NetPlan {
                 size,
                 turns,
@@ -143,6 +153,6 @@ pub fn perform<
             };
             Conclusion::of_done(net_file(rt, file, &plan, reader, writer, errors))
         }
-        Asked::Node(ref words) => node(rt, words, reader, writer, errors),
+        Request::Node(ref arguments) => node(rt, arguments, reader, writer, errors),
     }
 }

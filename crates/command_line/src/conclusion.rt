@@ -16,7 +16,7 @@ pub const DONE: u8 = 0;
 /// The status of a refusal.
 const REFUSED: u8 = 1;
 
-/// The status of a fault in the words.
+/// The status of a fault in the arguments.
 pub const BAD_WORDS: u8 = 2;
 
 /// The status of an execution error of the program.

@@ -2,9 +2,9 @@
 //!
 //! It is for the program `pgroup`. Call first:
 //!
-//! - `command(rt, words, reader, writer, errors)`, which does what the words ask for and returns
-//!   the status;
-//! - `explain(writer, errors, reason)`, which writes why words ask for no command.
+//! - `command(rt, arguments, reader, writer, errors)`, which does what the arguments ask for and
+//!   returns the status;
+//! - `explain(writer, errors, reason)`, which writes why arguments ask for no command.
 #![tactic(auto)]
 
 mod codes;

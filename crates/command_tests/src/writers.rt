@@ -1,5 +1,5 @@
 //! Commands over a writer that takes nothing, or that cannot be flushed.
-use command_words::{DEFAULT_STEPS, NotAsked, asked_of};
+use command_arguments::{DEFAULT_STEPS, NoRequest, request_of};
 use group_sim::{ScriptRefusal, sim_file};
 use machine_run::{Counting, MachineRefusal, RunIo, list_file, run_built_in, run_file};
 use std::alloc::{AllocError, Global};
@@ -63,10 +63,10 @@ enum Work {
 
 /// Returns true if help cannot be written.
 fn help_fails(alloc: Global, output: &mut Sink) -> Result<bool, AllocError> {
-    let words = [String::from_str(alloc, "--help")?];
-    let asked = asked_of(alloc, &words);
+    let arguments = [String::from_str(alloc, "--help")?];
+    let asked = request_of(alloc, &arguments);
     match &asked {
-        Err(NotAsked::Help(help)) => Ok(write!(output, "{help}").is_err()),
+        Err(NoRequest::Help(help)) => Ok(write!(output, "{help}").is_err()),
         _ => Ok(false),
     }
 }

@@ -22,7 +22,7 @@ use Rattle.paxos_disk.specs.Reads.{Reads}
 use Rattle.paxos_disk.specs.Sectors.{torn}
 use Rattle.group_protocol.proofs.Elements.{entries_none, first_in, rest_in}
 use Rattle.group_protocol.specs.Known.{Known, front}
-use Rattle.group_protocol.specs.ProposerRows.{on_campaign}
+use Rattle.group_protocol.specs.ProposerResponses.{on_campaign}
 use Rattle.group_node.specs.declared.player.Ran.TheVariants as more
 use Rattle.group_node.specs.NodeCalls.{Running}
 use Rattle.group_node.specs.Output.{no_progress}

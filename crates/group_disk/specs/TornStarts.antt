@@ -18,7 +18,7 @@ use Rattle.group_node.specs.NodeCalls.{Running}
 use Rattle.group_protocol.specs.Known.{Response, front}
 use Rattle.group_protocol.specs.Packets.{datagrams_of}
 use Rattle.group_protocol.specs.Protocol.{on_message}
-use Rattle.group_protocol.specs.ProposerRows.{next_ballot, on_campaign}
+use Rattle.group_protocol.specs.ProposerResponses.{next_ballot, on_campaign}
 use Rattle.group_wire.specs.Doings.{Doing}
 use Rattle.group_wire.specs.Process.{started}
 use Rattle.group_world.specs.Processes.{Entry}

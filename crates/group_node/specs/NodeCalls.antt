@@ -8,7 +8,7 @@ use Rattle.group_protocol.specs.declared.fault.NodeFault.{NodeFault}
 use Rattle.group_protocol.specs.declared.fault.NodeFault.TheVariants as fault
 use Rattle.group_protocol.specs.declared.limits.TheConstants.{MOST_WAITING}
 use Rattle.group_protocol.specs.Known.{Response, Known, front, new_key, next_serial, on_start, on_typed}
-use Rattle.group_protocol.specs.ProposerRows.{last_round, on_campaign}
+use Rattle.group_protocol.specs.ProposerResponses.{last_round, on_campaign}
 use Rattle.group_node.specs.Output.{Progress, unreleased_of}
 use Rattle.group_node.specs.States.{NodeState, input}
 

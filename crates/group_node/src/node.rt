@@ -2,16 +2,16 @@
 ghost use Rattle.std.specs.Prelude.{◌≡◌, ◌+◌, ◌⊎◌, ◌<◌, ◌≤◌, ℕ, List, [], ◌∷◌, false, length, option_map, slice_get, IsSome, IfErr, IfNone, IfOk, IsErrOf, OnErr, OnSome};
 ghost use Rattle.std.specs.FinMap.{get};
 ghost use Rattle.paxos_msg.specs.Datagrams.{Fits};
-ghost use Rattle.paxos_acceptor.specs.Calls.{FailsOnlyWith, IsAmong};
+ghost use Rattle.base.specs.Calls.{FailsOnlyWith, IsAmong};
 ghost use Rattle.paxos_acceptor.specs.Stores.{HasSameOwner, IsStoreOf, MayLoadNoMore, MayLoadOnly};
 ghost use Rattle.paxos_learner.specs.Learner.{IsFront};
 ghost use Rattle.paxos_msg.specs.declared.limits.TheConstants.{PLACES};
 ghost use Rattle.group_protocol.specs.declared.limits.TheConstants.{MOST_WAITING, TICK_PACKETS};
-ghost use Rattle.group_protocol.specs.Calls.{IsCampaignRefused, IsLet, IsTypingRefused, RefusesIfStopped};
+ghost use Rattle.group_protocol.specs.Calls.{IsCampaignRefused, IsAdmitted, IsTypingRefused, RefusesIfStopped};
 ghost use Rattle.group_node.specs.Calls.{Responds, Sends};
 ghost use Rattle.group_protocol.specs.Protocol.{answer_to, NeedsMemory};
 ghost use Rattle.group_protocol.specs.Known.{on_typed, front, new_key};
-ghost use Rattle.group_protocol.specs.ProposerRows.{is_leading, own_ballot, on_campaign};
+ghost use Rattle.group_protocol.specs.ProposerResponses.{is_leading, own_ballot, on_campaign};
 ghost use Rattle.group_protocol.specs.Tick.{on_tick};
 ghost use Rattle.group_node.specs.NodeCalls.{running, unreleased_by};
 ghost use Rattle.group_node.specs.Output.{IsReplay, no_progress, RunsOn};
@@ -185,7 +185,7 @@ impl<'a, S: Store> Node<'a, S> {
     /// dropped.
     pub fn campaign(&mut self, outbox: &mut Outbox) -> Result<(), NodeFault>
         ensures responds { Responds S.kind on_campaign self outbox result }
-        ensures refuses { IsLet self.old.protocol outbox.old.packets
+        ensures refuses { IsAdmitted self.old.protocol outbox.old.packets
             → IsCampaignRefused self.old.protocol.known result }
         ensures others { FailsOnlyWith (NodeFault.Stopped ∷ NodeFault.OutboxFull
             ∷ NodeFault.RoundsSpent ∷ NodeFault.PlacesSpent ∷ NodeFault.Memory
@@ -212,13 +212,14 @@ impl<'a, S: Store> Node<'a, S> {
         self.protocol.tick(outbox)
     }
 
-    /// Runs the machine for at most `steps` steps on the keys below the known front, while fewer
-    /// than 256 bytes wait (`RunsOn`). Returns `More` if the steps are spent, else `Full` if 256
-    /// bytes wait, else `Waits` if the machine waits for a key, else `Ended`, and how. Fails only
-    /// with `Stopped`, if a save has failed; then nothing has changed.
+    /// Runs the machine for at most `steps` steps on the keys of the places below the known front,
+    /// while fewer than 256 bytes of output wait (`RunsOn`). Returns `More` if the steps are spent,
+    /// else `Full` if 256 bytes wait, else `Waits` if the machine waits for a key, else `Ended`,
+    /// and how. Each step is one of the program on that input, as `unreleased` says.
     ///
-    /// `More` also comes if this start has made 18,446,744,073,709,551,615 steps. The machine is
-    /// kept between calls, so no step is made twice. The call allocates nothing.
+    /// Fails only with `Stopped`, exactly if a save has failed. Then nothing has changed. `More`
+    /// also comes if this start has made 18,446,744,073,709,551,615 steps. The machine is kept
+    /// between calls, so no step is made twice. The call allocates nothing.
     pub fn run(&mut self, steps: u32) -> Result<Ran, NodeFault>
         ensures runs { IfOk result
             (λ ran. RunsOn (input self.old.protocol.known) steps self.old.progress self.new.progress

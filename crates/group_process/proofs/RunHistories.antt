@@ -12,7 +12,7 @@ use Rattle.group_protocol.specs.Known.{Known, Response, on_start}
 use Rattle.group_node.specs.Console.{offered}
 use Rattle.group_node.specs.Output.{Progress, no_progress}
 use Rattle.group_protocol.specs.Protocol.{on_message}
-use Rattle.group_protocol.specs.ProposerRows.{on_campaign}
+use Rattle.group_protocol.specs.ProposerResponses.{on_campaign}
 use Rattle.group_protocol.specs.Tick.{on_tick}
 use Rattle.group_node.specs.NodeCalls.{Running, Makes, NodeCall, Refuses, call_of_campaign, call_of_press, call_of_start}
 use Rattle.group_wire.specs.Doings.{DoesAll, Doing, FailsDeed, IsMade, MakesOnWire, SendsNothing, record_after}

@@ -19,7 +19,7 @@ use Rattle.group_node.specs.Deeds.{Campaign, Hear}
 use Rattle.group_protocol.specs.Known.{front}
 use Rattle.group_protocol.specs.Packets.{datagrams_of}
 use Rattle.group_protocol.specs.Protocol.{on_message}
-use Rattle.group_protocol.specs.ProposerRows.{next_ballot, on_campaign}
+use Rattle.group_protocol.specs.ProposerResponses.{next_ballot, on_campaign}
 use Rattle.group_protocol.specs.States.{IsSize}
 use Rattle.group_wire.specs.Arrivals.{Spells}
 use Rattle.group_node.specs.NodeCalls.{Running}

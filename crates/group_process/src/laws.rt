@@ -56,7 +56,7 @@ pub fn processes_make_a_log()
     logs_have_one_end();
 }
 
-/// Each front of a log of runs is a log of runs: of the first ones of each node, of which the last
+/// Each prefix of a log of runs is a log of runs: of the first ones of each node, of which the last
 /// one may be cut off at a deed. So what holds at the end of every log holds at each moment of one.
 pub fn fronts_of_runs()
     ensures { (p : Parts) (group : Group) (runs : ℕ → List Attempt) (log more : List Entry)
@@ -91,7 +91,7 @@ pub fn runs_may_hear()
 /// told in `--seen` how many bytes are there. Premises: the console begins with what each run has
 /// released, and is what one of them has released, or nothing.
 ///
-/// - The terminal shows the front of the console, whatever was lost.
+/// - The terminal shows a prefix of the console, whatever was lost.
 /// - What the last run has released is there once that run has written all that it had to.
 /// - If nothing was lost, the terminal is the console.
 pub fn terminals_are_consoles()
@@ -103,7 +103,7 @@ pub fn terminals_are_consoles()
         → ConsolesAreReleased starts now → TerminalsAreConsoles starts now }
 {}
 
-/// What a run writes at a terminal that shows `shown`, the front of what the run has released, if
+/// What a run writes at a terminal that shows `shown`, a prefix of what the run has released, if
 /// it is told another number than that of these bytes. After a smaller number the bytes from there
 /// on are there twice. After one that is greater by `n`, the next `n` bytes are left out.
 pub fn wrong_seen()

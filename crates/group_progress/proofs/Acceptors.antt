@@ -9,7 +9,7 @@ use Rattle.paxos_msg.specs.Batches.{Record, Vote}
 use Rattle.paxos_msg.specs.Messages.{kept_vote_at}
 use Rattle.paxos_msg.specs.Tests.{ballot_lt, is_majority, same_ballot, same_value}
 use Rattle.paxos_acceptor.specs.Answers.{after, greater_promise, is_promised, part_of, value_under}
-use Rattle.group_protocol.specs.AcceptorRows.{unless_passed}
+use Rattle.group_protocol.specs.AcceptorResponses.{unless_passed}
 use Rattle.group_protocol.specs.Known.{Known, Response}
 use Rattle.group_protocol.specs.Packets.{to_all, to_one}
 use Rattle.group_protocol.specs.Protocol.{on_message}

@@ -16,7 +16,7 @@ use Rattle.paxos_proposer.specs.Proposer.{Proposer, is_covered, next_of}
 use Rattle.group_protocol.specs.declared.limits.TheConstants.{MOST_WAITING}
 use Rattle.group_protocol.specs.Known.{Known, Response, new_key, next_serial, on_typed}
 use Rattle.group_protocol.specs.Protocol.{on_message}
-use Rattle.group_protocol.specs.ProposerRows.{is_known, submitted, taking_part}
+use Rattle.group_protocol.specs.ProposerResponses.{is_known, submitted, taking_part}
 use Rattle.group_protocol.specs.Tick.{on_tick, ticked}
 use Rattle.group_node.specs.Deeds as deed
 use Rattle.group_node.specs.Deeds.{Deed}

@@ -17,7 +17,7 @@ use Rattle.paxos_proposer.specs.Proposer.{Proposer, new_proposer, round_of}
 use Rattle.group_protocol.proofs.Elements.{first_in}
 use Rattle.group_protocol.specs.Known.{Known, front}
 use Rattle.group_protocol.specs.Packets.{bodies_of}
-use Rattle.group_protocol.specs.ProposerRows.{last_round, next_ballot, on_campaign}
+use Rattle.group_protocol.specs.ProposerResponses.{last_round, next_ballot, on_campaign}
 use Rattle.group_protocol.specs.Steps.{messages_handed_out}
 use Rattle.group_protocol.specs.WaitingKeys.{waiting_keys}
 use Rattle.group_world.specs.Group.{World, member_at, seat_of_member, world_state}

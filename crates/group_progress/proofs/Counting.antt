@@ -17,7 +17,7 @@ use Rattle.paxos_learner.specs.Tallies.{Tally, begun_tally, has_node, joined_tal
 use Rattle.paxos_proposer.specs.Proposer.{Proposer, is_covered, next_of}
 use Rattle.group_protocol.specs.Known.{Known, Response}
 use Rattle.group_protocol.specs.Protocol.{on_message}
-use Rattle.group_protocol.specs.ProposerRows.{is_known, submitted, taking_part}
+use Rattle.group_protocol.specs.ProposerResponses.{is_known, submitted, taking_part}
 use Rattle.group_progress.proofs.Acceptors.{TestLaws}
 use Rattle.group_progress.proofs.Calm.{IsCalmBody, IsSteady}
 use Rattle.group_progress.proofs.Learners.{Counts, IsCounted}

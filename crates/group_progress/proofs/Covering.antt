@@ -16,11 +16,11 @@ use Rattle.paxos_learner.specs.Learner.{Learner, front_of}
 use Rattle.paxos_proposer.specs.declared.proposer.TheConstants.{MOST_PUMPED}
 use Rattle.paxos_proposer.specs.Proposer.{Proposer, asks_on, coverage_of, next_of, proposer_after_part, rises}
 use Rattle.group_protocol.proofs.Elements.{first_in}
-use Rattle.group_protocol.specs.AcceptorRows.{unless_passed}
+use Rattle.group_protocol.specs.AcceptorResponses.{unless_passed}
 use Rattle.group_protocol.specs.Known.{Known, Response, quiet}
 use Rattle.group_protocol.specs.Packets.{bodies_of, to_one}
 use Rattle.group_protocol.specs.Protocol.{on_message}
-use Rattle.group_protocol.specs.ProposerRows.{prepare_from, proposing_on, taking_part}
+use Rattle.group_protocol.specs.ProposerResponses.{prepare_from, proposing_on, taking_part}
 use Rattle.group_protocol.specs.Pump.{accepts_of, pump}
 use Rattle.group_protocol.specs.Ranges.{IsOwnProposer}
 use Rattle.group_protocol.specs.Steps.{messages_handed_out}

@@ -10,7 +10,7 @@ use Rattle.paxos_learner.specs.Input.{StandsIn, front_values, has_key, is_learne
 use Rattle.paxos_learner.specs.Learner.{Learner, front_of}
 use Rattle.paxos_proposer.specs.Proposer.{Proposer, is_kept_from, next_of}
 use Rattle.group_protocol.specs.Known.{Known, front}
-use Rattle.group_protocol.specs.ProposerRows.{is_known_key}
+use Rattle.group_protocol.specs.ProposerResponses.{is_known_key}
 use Rattle.group_protocol.specs.WaitingKeys.{batch_of, waiting_keys}
 use Rattle.group_world.specs.Group.{World}
 use Rattle.group_progress.proofs.Unread.{IsFirstUnread, IsUnreadAt}

@@ -10,7 +10,7 @@ use Rattle.paxos_msg.specs.Batches.{Body, Change, Msg, Record}
 use Rattle.paxos_msg.specs.Datagrams.{Fits}
 use Rattle.paxos_acceptor.specs.declared.me.Me.{Me}
 use Rattle.group_protocol.specs.Known.{Known, Response, front, on_start}
-use Rattle.group_protocol.specs.ProposerRows.{last_round, next_ballot, on_campaign}
+use Rattle.group_protocol.specs.ProposerResponses.{last_round, next_ballot, on_campaign}
 use Rattle.group_protocol.specs.Protocol.{answer_to, on_message}
 use Rattle.group_protocol.specs.Steps.{messages_handed_out}
 use Rattle.group_protocol.specs.Ranges.{AllFit, IsFit, IsHeardFit, IsInRange, IsMember}

@@ -12,12 +12,12 @@ use Rattle.paxos_proposer.specs.Proposer.{Proposer}
 use Rattle.group_protocol.proofs.Elements.{in_cases, none_in}
 use Rattle.group_protocol.specs.declared.packet.To.{To}
 use Rattle.group_protocol.specs.declared.packet.To.TheVariants.{One}
-use Rattle.group_protocol.specs.AcceptorRows.{answering, unless_passed}
+use Rattle.group_protocol.specs.AcceptorResponses.{answering, unless_passed}
 use Rattle.group_protocol.specs.Known.{Known, Response, front}
-use Rattle.group_protocol.specs.LearnerRows.{tell_packet}
+use Rattle.group_protocol.specs.LearnerResponses.{tell_packet}
 use Rattle.group_protocol.specs.Packets.{Packet, to_all, to_one}
 use Rattle.group_protocol.specs.Protocol.{on_message, without_read_keys}
-use Rattle.group_protocol.specs.ProposerRows.{submitted, taking_part, unless_refused}
+use Rattle.group_protocol.specs.ProposerResponses.{submitted, taking_part, unless_refused}
 use Rattle.group_protocol.specs.Tick.{on_tick, submits, ticked}
 use Rattle.group_protocol.specs.WaitingKeys.{batch_of}
 use Rattle.group_progress.proofs.Silent.{no_images}

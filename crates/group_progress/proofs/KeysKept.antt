@@ -15,8 +15,8 @@ use Rattle.paxos_learner.specs.Input.{front_values, keys_in_order}
 use Rattle.paxos_learner.specs.Learner.{HasLearnedMore, Learner}
 use Rattle.paxos_proposer.specs.Proposer.{Proposer, is_covered, next_of}
 use Rattle.group_protocol.specs.Known.{Known, Response}
-use Rattle.group_protocol.specs.Protocol.{on_message, row}
-use Rattle.group_protocol.specs.ProposerRows.{is_known, submitted, taking_part}
+use Rattle.group_protocol.specs.Protocol.{on_message, response_to}
+use Rattle.group_protocol.specs.ProposerResponses.{is_known, submitted, taking_part}
 use Rattle.group_protocol.specs.Tick.{on_tick, ticked}
 use Rattle.group_protocol.specs.WaitingKeys.{waiting_keys, without_read}
 
@@ -59,15 +59,15 @@ module _ (n : Known) where
   no_start_accept : (r : Record) (b : Ballot) (s : ℕ) (v : Value) → IfSome (accept_of r b s v).saves (λ c. c ≢ change.Start)
   no_start_accept r b s v = grind (arith, nat_tests)
 
-  row_waits : (j : ℕ) (body : Body) → Waits n (row n j body)
-  row_waits j (Prepare b from) = rw (starts_stay n.kept _ (no_start_prepare n.kept b from)) refl
-  row_waits j (Promise b first upto votes) = part_waits n.proposer j b first upto votes
-  row_waits j (Accept b s v) = rw (starts_stay n.kept _ (no_start_accept n.kept b s v)) refl
-  row_waits j (Accepted b s v) = refl
-  row_waits j (Refused b promised) = refl
-  row_waits j (Submit v) = submit_waits n.proposer v
-  row_waits j (Ask from) = refl
-  row_waits j (Tell s v) = refl
+  response_waits : (j : ℕ) (body : Body) → Waits n (response_to n j body)
+  response_waits j (Prepare b from) = rw (starts_stay n.kept _ (no_start_prepare n.kept b from)) refl
+  response_waits j (Promise b first upto votes) = part_waits n.proposer j b first upto votes
+  response_waits j (Accept b s v) = rw (starts_stay n.kept _ (no_start_accept n.kept b s v)) refl
+  response_waits j (Accepted b s v) = refl
+  response_waits j (Refused b promised) = refl
+  response_waits j (Submit v) = submit_waits n.proposer v
+  response_waits j (Ask from) = refl
+  response_waits j (Tell s v) = refl
 
 -- ---- keys
 
@@ -87,11 +87,11 @@ pub record Shrinks (keys : List Key) (n : Known) : Type 0 where
 
 pub shrink_after : KeyLaws → {keys : List Key} (n : Known) (j : ℕ) (body : Body) → Shrinks keys n → Shrinks keys (on_message n j body).node
 shrink_after laws {keys} n j body h =
-    let done : Known = (row n j body).node in
+    let done : Known = (response_to n j body).node in
     let (gone, parts, below) = laws.gone done in
     record {
       gone = h.gone ++ gone;
-      parts = h.parts ∙ ap (λ ks. h.gone ++ ks) (sym (row_waits n j body) ∙ parts) ∙ sym
+      parts = h.parts ∙ ap (λ ks. h.gone ++ ks) (sym (response_waits n j body) ∙ parts) ∙ sym
           (append_assoc h.gone gone (waiting_keys (without_read done)));
       below = All-append (λ k. Contains (keys_in_order (front_values done.learner.learned)) k) h.gone gone
           (All-weaker (λ k. Contains (keys_in_order (front_values n.learner.learned)) k)

@@ -17,10 +17,10 @@ use Rattle.paxos_proposer.specs.declared.proposer.TheConstants.{MOST_PUMPED}
 use Rattle.paxos_proposer.specs.Proposer.{Proposer, greater, heard, heard_one, is_covered, is_kept_from, next_of, next_value, proposed_at, proposer_after_part, proposing, rises}
 use Rattle.paxos_proposer.proofs.Proposals.{proposed_next}
 use Rattle.group_protocol.proofs.Elements.{in_cases, none_in}
-use Rattle.group_protocol.specs.AcceptorRows.{unless_passed}
+use Rattle.group_protocol.specs.AcceptorResponses.{unless_passed}
 use Rattle.group_protocol.specs.Known.{Known, Response}
 use Rattle.group_protocol.specs.Protocol.{on_message}
-use Rattle.group_protocol.specs.ProposerRows.{is_known, leaves_room, offer_after, offered_with, submitted, taking_part, unless_refused}
+use Rattle.group_protocol.specs.ProposerResponses.{is_known, leaves_room, offer_after, offered_with, submitted, taking_part, unless_refused}
 use Rattle.group_protocol.specs.Pump.{Proposals, offer, pump, stop}
 use Rattle.group_protocol.specs.Tick.{ticked}
 use Rattle.group_progress.proofs.Acceptors.{TestLaws}

@@ -9,10 +9,10 @@ use Rattle.paxos_msg.specs.Batches.{Body, Vote}
 use Rattle.paxos_msg.specs.Tests.{same_ballot}
 use Rattle.paxos_proposer.specs.declared.proposer.TheConstants.{MOST_PUMPED}
 use Rattle.paxos_proposer.specs.Proposer.{Proposer, coverage_of, is_covered, next_of, next_value, proposer_after_part, proposing, rises}
-use Rattle.group_protocol.specs.AcceptorRows.{unless_passed}
+use Rattle.group_protocol.specs.AcceptorResponses.{unless_passed}
 use Rattle.group_protocol.specs.Known.{Known, Response}
 use Rattle.group_protocol.specs.Protocol.{on_message}
-use Rattle.group_protocol.specs.ProposerRows.{is_known, leaves_room, offer_after, submitted, taking_part, unless_refused}
+use Rattle.group_protocol.specs.ProposerResponses.{is_known, leaves_room, offer_after, submitted, taking_part, unless_refused}
 use Rattle.group_protocol.specs.Pump.{Proposals, offer, pump, stop}
 use Rattle.group_protocol.specs.Tick.{ticked}
 use Rattle.group_progress.proofs.Acceptors.{TestLaws}

@@ -19,7 +19,7 @@ use Rattle.paxos_learner.specs.Learner.{HasLearnedMore, IsFront, Learner, front_
 use Rattle.paxos_learner.specs.Tallies.{Tally}
 use Rattle.paxos_proposer.specs.Proposer.{Proposer}
 use Rattle.group_protocol.proofs.Elements.{first_in}
-use Rattle.group_protocol.specs.AcceptorRows.{unless_passed}
+use Rattle.group_protocol.specs.AcceptorResponses.{unless_passed}
 use Rattle.group_protocol.specs.Known.{Known, Response}
 use Rattle.group_protocol.specs.Packets.{bodies_of}
 use Rattle.group_protocol.specs.Protocol.{on_message}

@@ -19,7 +19,7 @@ use Rattle.paxos_learner.specs.Tallies.{Tally}
 use Rattle.paxos_proposer.specs.Proposer.{Proposer}
 use Rattle.group_protocol.proofs.Elements.{none_in}
 use Rattle.group_protocol.specs.Known.{Known, front}
-use Rattle.group_protocol.specs.ProposerRows.{next_ballot, on_campaign}
+use Rattle.group_protocol.specs.ProposerResponses.{next_ballot, on_campaign}
 use Rattle.group_node.specs.Deeds as deed
 use Rattle.group_node.specs.NodeCalls.{Running}
 use Rattle.group_world.specs.declared.event.Done.TheVariants.{Applied}

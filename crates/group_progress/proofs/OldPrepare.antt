@@ -15,11 +15,11 @@ use Rattle.paxos_acceptor.specs.declared.me.Me.{Me}
 use Rattle.paxos_learner.specs.Learner.{IsFront, front_of}
 use Rattle.paxos_proposer.specs.Proposer.{Proposer, greatest_round}
 use Rattle.group_protocol.proofs.Elements.{first_in, in_cases, none_in}
-use Rattle.group_protocol.specs.AcceptorRows.{unless_passed}
+use Rattle.group_protocol.specs.AcceptorResponses.{unless_passed}
 use Rattle.group_protocol.specs.Known.{Known, Response, front}
 use Rattle.group_protocol.specs.Packets.{Packet}
 use Rattle.group_protocol.specs.Protocol.{on_message}
-use Rattle.group_protocol.specs.ProposerRows.{last_round, next_ballot, on_campaign}
+use Rattle.group_protocol.specs.ProposerResponses.{last_round, next_ballot, on_campaign}
 use Rattle.group_protocol.specs.Steps.{messages_handed_out}
 use Rattle.group_node.specs.Deeds as deed
 use Rattle.group_node.specs.NodeCalls.{Makes, Running, call_of_campaign}

@@ -16,7 +16,7 @@ use Rattle.paxos_learner.specs.Learner.{IsFront, front_of}
 use Rattle.group_protocol.proofs.Elements.{first_in}
 use Rattle.group_protocol.specs.Known.{front}
 use Rattle.group_protocol.specs.Protocol.{on_message}
-use Rattle.group_protocol.specs.ProposerRows.{next_ballot, on_campaign}
+use Rattle.group_protocol.specs.ProposerResponses.{next_ballot, on_campaign}
 use Rattle.group_protocol.specs.Steps.{messages_handed_out}
 use Rattle.group_node.specs.Deeds as deed
 use Rattle.group_node.specs.NodeCalls.{Running}

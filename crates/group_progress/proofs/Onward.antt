@@ -10,7 +10,7 @@ use Rattle.paxos_learner.specs.Learner.{HasLearnedMore}
 use Rattle.group_protocol.specs.declared.limits.TheConstants.{MOST_WAITING}
 use Rattle.group_protocol.specs.Known.{Known, Response, front, new_key, next_serial, on_typed}
 use Rattle.group_protocol.specs.Protocol.{on_message}
-use Rattle.group_protocol.specs.ProposerRows.{last_round, on_campaign}
+use Rattle.group_protocol.specs.ProposerResponses.{last_round, on_campaign}
 use Rattle.group_protocol.specs.Tick.{on_tick}
 use Rattle.group_node.specs.Deeds as deed
 use Rattle.group_node.specs.Deeds.{Deed}

@@ -20,7 +20,7 @@ use Rattle.paxos_acceptor.specs.declared.me.Me.{Me}
 use Rattle.group_protocol.specs.Known.{Known, front}
 use Rattle.group_protocol.specs.Packets.{Datagram, datagram_of, datagrams_of, to_all}
 use Rattle.group_protocol.specs.Protocol.{on_message}
-use Rattle.group_protocol.specs.ProposerRows.{last_round, next_ballot, on_campaign}
+use Rattle.group_protocol.specs.ProposerResponses.{last_round, next_ballot, on_campaign}
 use Rattle.group_protocol.specs.Ranges.{AllFit}
 use Rattle.group_node.specs.Deeds as deed
 use Rattle.group_node.specs.NodeCalls.{Makes, NodeCall, Running, call_of_campaign}

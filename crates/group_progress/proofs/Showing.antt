@@ -7,7 +7,7 @@ use Rattle.pcode_file.specs.Parts.{Parts}
 use Rattle.pcode_machine.specs.Configuration.{Configuration}
 use Rattle.pcode_machine.specs.Runs.{AreComparable, IsPrefix, LeadsIn, after_steps, led, out}
 use Rattle.pcode_machine.specs.Transition.{Goes, Stops, Stuck, Transition, Waiting, transition}
-use Rattle.pcode_machine.proofs.Ways.{Executed, Moved, went}
+use Rattle.pcode_machine.proofs.TransitionCases.{Executed, Moved, went}
 use Rattle.group_protocol.specs.Known.{Known}
 use Rattle.group_node.specs.Deeds as deed
 use Rattle.group_node.specs.Deeds.{Deed}

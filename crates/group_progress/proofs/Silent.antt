@@ -15,12 +15,12 @@ use Rattle.paxos_acceptor.specs.Answers.{part_of}
 use Rattle.paxos_proposer.specs.declared.proposer.TheConstants.{MOST_PUMPED}
 use Rattle.paxos_proposer.specs.Proposer.{Proposer, asks_on, coverage_of, is_covered, is_kept_from, next_of, proposed_at, proposer_after_part, rises}
 use Rattle.group_protocol.proofs.Elements.{in_cases, none_in}
-use Rattle.group_protocol.specs.AcceptorRows.{unless_passed}
+use Rattle.group_protocol.specs.AcceptorResponses.{unless_passed}
 use Rattle.group_protocol.specs.Known.{Known, Response, front}
-use Rattle.group_protocol.specs.LearnerRows.{tell_packet}
+use Rattle.group_protocol.specs.LearnerResponses.{tell_packet}
 use Rattle.group_protocol.specs.Packets.{Packet, to_all, to_one}
-use Rattle.group_protocol.specs.Protocol.{on_message, row}
-use Rattle.group_protocol.specs.ProposerRows.{next_ballot, on_campaign, prepare_from, taking_part}
+use Rattle.group_protocol.specs.Protocol.{on_message, response_to}
+use Rattle.group_protocol.specs.ProposerResponses.{next_ballot, on_campaign, prepare_from, taking_part}
 use Rattle.group_protocol.specs.Pump.{pump, stop}
 use Rattle.group_protocol.specs.Tick.{accept_again, accepts_again, asks, asks_again, on_tick, prepares_again, submits, ticked}
 use Rattle.group_protocol.specs.WaitingKeys.{batch_of, count_gone}
@@ -145,7 +145,7 @@ module _ (S W : Type 0) (tests : TestLaws) (b : Ballot) where
           promised = rw made.promised (inr (refl, omega arith));
           learned = λ s. ap (λ l. get l.learned s) made.rest.learner ∙ h.learned s;
           proposer = rw made.proposer (stays_silent n.proposer h.proposer);
-          waiting = left_waiting (row n j (Prepare b from)).node h.waiting;
+          waiting = left_waiting (response_to n j (Prepare b from)).node h.waiting;
         },
         subst (AreSilent S b) (sym made.sends) (one_silent S b (to_one b.node (part_of n.kept b from)) (rw h.votes refl)),
       )
@@ -171,7 +171,7 @@ module _ (S W : Type 0) (tests : TestLaws) (b : Ballot) where
           promised = made.0.promised;
           learned = made.0.learned;
           proposer = made.0.proposer;
-          waiting = left_waiting (row n j (Promise c first upto votes)).node made.0.waiting;
+          waiting = left_waiting (response_to n j (Promise c first upto votes)).node made.0.waiting;
         },
         made.1,
       ) where
@@ -202,7 +202,7 @@ module _ (S W : Type 0) (tests : TestLaws) (b : Ballot) where
       learned = h.learned;
       proposer = h.proposer;
       waiting = left_waiting
-          (row n j (Ask from)).node h.waiting;
+          (response_to n j (Ask from)).node h.waiting;
     },
     rw (no_images (tell_packet n.learner.learned j) _ (λ s. ap (option_map (λ v. to_one j (Tell s v))) (h.learned s))) (none_silent S b),
   )

@@ -17,7 +17,7 @@ use Rattle.paxos_learner.specs.Learner.{IsFront, front_of}
 use Rattle.paxos_proposer.specs.Proposer.{greatest_round}
 use Rattle.group_protocol.proofs.Elements.{none_in, first_in}
 use Rattle.group_protocol.specs.Known.{Known, front}
-use Rattle.group_protocol.specs.ProposerRows.{last_round, next_ballot, on_campaign}
+use Rattle.group_protocol.specs.ProposerResponses.{last_round, next_ballot, on_campaign}
 use Rattle.group_node.specs.Deeds as deed
 use Rattle.group_node.specs.NodeCalls.{Makes, Running, call_of_campaign}
 use Rattle.group_world.specs.declared.event.Act.TheVariants as act

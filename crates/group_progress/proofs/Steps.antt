@@ -5,7 +5,7 @@ use Rattle.std.proofs.lemmas.Option.{slice_get-get_or}
 use Rattle.paxos_msg.specs.declared.limits.TheConstants.{LAST_ROUND, LAST_START, PLACES}
 use Rattle.paxos_msg.specs.Batches.{Msg, Sent}
 use Rattle.group_protocol.specs.Known.{Known, Response, front, on_start}
-use Rattle.group_protocol.specs.ProposerRows.{last_round, on_campaign}
+use Rattle.group_protocol.specs.ProposerResponses.{last_round, on_campaign}
 use Rattle.group_protocol.specs.Protocol.{answer_to}
 use Rattle.group_protocol.specs.Steps.{messages_handed_out}
 use Rattle.group_protocol.specs.Tick.{on_tick}

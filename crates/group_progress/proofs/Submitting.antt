@@ -21,7 +21,7 @@ use Rattle.paxos_proposer.specs.declared.proposer.TheConstants.{MOST_PUMPED}
 use Rattle.paxos_proposer.specs.Proposer.{Proposer, coverage_of, is_covered, is_covered_by, is_kept_from, next_of, proposal, proposing}
 use Rattle.group_protocol.proofs.Elements.{first_in, rest_in}
 use Rattle.group_protocol.specs.Known.{Known, Response, quiet}
-use Rattle.group_protocol.specs.ProposerRows.{are_known, is_known, is_known_key, offer_after, offering, submitted}
+use Rattle.group_protocol.specs.ProposerResponses.{are_known, is_known, is_known_key, offer_after, offering, submitted}
 use Rattle.group_protocol.specs.Protocol.{on_message}
 use Rattle.group_protocol.specs.Pump.{Proposals, pump}
 use Rattle.group_protocol.specs.Ranges.{IsOwnProposer}

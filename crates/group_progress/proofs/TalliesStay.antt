@@ -10,7 +10,7 @@ use Rattle.paxos_acceptor.specs.declared.me.Me.{Me}
 use Rattle.paxos_proposer.specs.Proposer.{Proposer, is_covered, next_of}
 use Rattle.group_protocol.specs.Known.{Known, Response}
 use Rattle.group_protocol.specs.Protocol.{on_message}
-use Rattle.group_protocol.specs.ProposerRows.{is_known, submitted, taking_part}
+use Rattle.group_protocol.specs.ProposerResponses.{is_known, submitted, taking_part}
 use Rattle.group_protocol.specs.Tick.{ticked}
 use Rattle.group_node.specs.Deeds as deed
 use Rattle.group_node.specs.Deeds.{Deed}

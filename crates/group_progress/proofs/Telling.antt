@@ -14,7 +14,7 @@ use Rattle.paxos_learner.specs.Learner.{Learner, front_of}
 use Rattle.paxos_proposer.specs.Proposer.{Proposer}
 use Rattle.group_protocol.proofs.Elements.{first_in, in_cases, none_in, rest_in}
 use Rattle.group_protocol.specs.Known.{Known, Response, front}
-use Rattle.group_protocol.specs.LearnerRows.{tell_packet}
+use Rattle.group_protocol.specs.LearnerResponses.{tell_packet}
 use Rattle.group_protocol.specs.Packets.{Packet, bodies_of, to_all, to_one}
 use Rattle.group_protocol.specs.Protocol.{on_message}
 use Rattle.group_protocol.specs.Tick.{accepts_again, asks, prepares_again, on_tick, submits, ticked}

@@ -17,7 +17,7 @@ use Rattle.paxos_proposer.specs.Proposer.{Proposer, is_covered, is_kept_from, ne
 use Rattle.group_protocol.proofs.Elements.{first_in, in_cases, none_in, rest_in}
 use Rattle.group_protocol.specs.Known.{Known, Response, new_key, on_typed, quiet}
 use Rattle.group_protocol.specs.Protocol.{on_message}
-use Rattle.group_protocol.specs.ProposerRows.{is_known, is_known_key, offer_after, offering, submitted}
+use Rattle.group_protocol.specs.ProposerResponses.{is_known, is_known_key, offer_after, offering, submitted}
 use Rattle.group_protocol.specs.Pump.{pump}
 use Rattle.group_protocol.specs.WaitingKeys.{waiting_keys}
 use Rattle.group_progress.proofs.Unread.{IsFirstUnread}

@@ -6,7 +6,7 @@ use Rattle.paxos_acceptor.specs.declared.me.Me.{Me}
 use Rattle.paxos_learner.specs.Input.{front_values, keys_in_order}
 use Rattle.paxos_proposer.specs.Proposer.{Proposer}
 use Rattle.group_protocol.specs.Known.{Known, new_key, next_serial, on_typed}
-use Rattle.group_protocol.specs.Protocol.{row}
+use Rattle.group_protocol.specs.Protocol.{response_to}
 use Rattle.group_protocol.specs.Tick.{ticked}
 use Rattle.group_protocol.specs.WaitingKeys.{waiting_keys, without_read}
 use Rattle.group_node.specs.Deeds as deed
@@ -75,7 +75,7 @@ module _ (laws : UnreadLaws) (w : World) (holds : Holds w) (i : ℕ) (m : Member
   call_unread deed.Idle h = tt
   call_unread (deed.Start r) h = tt
   call_unread (deed.Hear x) h =
-      first_by _ _ (laws.first (row q.known x.sender x.body).node)
+      first_by _ _ (laws.first (response_to q.known x.sender x.body).node)
   call_unread (deed.Press byte) h = rw (laws.typed q.known byte) (one_more _ (waiting_keys q.known) _ h (next_unread byte))
   call_unread deed.Campaign h = h
   call_unread deed.Tick h = tick_unread q.known q.known.proposer h

@@ -21,7 +21,7 @@ use Rattle.group_protocol.proofs.Elements.{first_in, none_in}
 use Rattle.group_protocol.specs.Known.{Known, front}
 use Rattle.group_protocol.specs.Packets.{to_all}
 use Rattle.group_protocol.specs.Protocol.{on_message}
-use Rattle.group_protocol.specs.ProposerRows.{is_known_key}
+use Rattle.group_protocol.specs.ProposerResponses.{is_known_key}
 use Rattle.group_protocol.specs.Tick.{asks, on_tick, submits}
 use Rattle.group_protocol.specs.WaitingKeys.{waiting_keys}
 use Rattle.group_node.specs.Deeds as deed

@@ -16,7 +16,7 @@ use Rattle.group_protocol.specs.Known.{front}
 use Rattle.group_protocol.specs.declared.packet.To.{To}
 use Rattle.group_protocol.specs.declared.packet.To.TheVariants.{All, One}
 use Rattle.group_protocol.specs.Packets.{Datagram}
-use Rattle.group_protocol.specs.ProposerRows.{next_ballot}
+use Rattle.group_protocol.specs.ProposerResponses.{next_ballot}
 use Rattle.group_node.specs.NodeCalls.{Running}
 use Rattle.group_node.specs.States.{input}
 use Rattle.group_world.specs.declared.event.Act.{Act}

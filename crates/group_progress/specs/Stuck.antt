@@ -11,7 +11,7 @@ use Rattle.paxos_msg.specs.Batches.{Msg}
 use Rattle.paxos_msg.specs.Fits.{IsNode}
 use Rattle.paxos_msg.specs.Keys.{Key}
 use Rattle.paxos_msg.specs.Messages.{IsSaid}
-use Rattle.group_protocol.specs.ProposerRows.{next_ballot}
+use Rattle.group_protocol.specs.ProposerResponses.{next_ballot}
 use Rattle.group_node.specs.NodeCalls.{Running}
 use Rattle.group_world.specs.declared.event.Act.{Act}
 use Rattle.group_world.specs.declared.event.Act.TheVariants.{Campaign, Crash, Deliver, Tick}

@@ -8,7 +8,7 @@ use Rattle.paxos_msg.specs.Batches.{Vote}
 use Rattle.paxos_msg.specs.Tests.{same_ballot}
 use Rattle.paxos_proposer.specs.Proposer.{proposer_after_part, asks_on, Proposer, coverage_of, is_covered, next_of, proposed_at}
 use Rattle.group_protocol.specs.Known.{Response, Known, quiet, front}
-use Rattle.group_protocol.specs.ProposerRows.{offer_after, offering, prepare_from, proposing_on, submitted, taking_part}
+use Rattle.group_protocol.specs.ProposerResponses.{offer_after, offering, prepare_from, proposing_on, submitted, taking_part}
 use Rattle.group_protocol.specs.Pump.{pump}
 use Rattle.group_protocol.specs.Tick.{ticked, accept_again, accepts_again, asks, asks_again, prepares_again}
 use Rattle.group_protocol.specs.WaitingKeys.{batch_of}
@@ -19,7 +19,7 @@ use Rattle.std.proofs.lemmas.List.Elements.{All-nil, All-take}
 use Rattle.base.proofs.Branches.{either}
 use Rattle.paxos_msg.specs.declared.message.Body.TheVariants.{Accept, Ask, Prepare, Submit, Tell}
 use Rattle.paxos_learner.specs.Learner.{front_of}
-use Rattle.group_protocol.specs.LearnerRows.{on_ask, tell_packet}
+use Rattle.group_protocol.specs.LearnerResponses.{on_ask, tell_packet}
 use Rattle.group_protocol.specs.Packets.{Packet, to_all, to_one}
 
 -- ---- what the proposer does

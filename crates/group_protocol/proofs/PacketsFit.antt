@@ -19,7 +19,7 @@ use Rattle.group_protocol.specs.Ranges.{IsInRange, AreFit, IsOwnProposer}
 use Rattle.paxos_acceptor.specs.declared.me.Me.{Me}
 use Rattle.paxos_proposer.specs.Proposer.{new_proposer, next_of, next_value, Proposer, proposing}
 use Rattle.paxos_proposer.specs.States.{IsProposerInRange}
-use Rattle.group_protocol.specs.ProposerRows.{beginning, offer_after}
+use Rattle.group_protocol.specs.ProposerResponses.{beginning, offer_after}
 use Rattle.group_protocol.specs.Packets.{Packet}
 use Rattle.group_protocol.specs.Pump.{offer, Proposals, propose, pump}
 use Rattle.group_protocol.proofs.WaitingKeys.{batch_typed}

@@ -13,12 +13,12 @@ use Rattle.paxos_acceptor.specs.Answers.{accept_of, Answer, prepare_of}
 use Rattle.paxos_proposer.specs.Proposer.{Proposer}
 use Rattle.paxos_learner.specs.Input.{front_values, keys_in_order}
 use Rattle.group_protocol.specs.declared.packet.To.{To}
-use Rattle.group_protocol.specs.AcceptorRows.{answering}
+use Rattle.group_protocol.specs.AcceptorResponses.{answering}
 use Rattle.group_protocol.specs.Known.{Known, next_serial, Response}
-use Rattle.group_protocol.specs.LearnerRows.{tell_packet}
+use Rattle.group_protocol.specs.LearnerResponses.{tell_packet}
 use Rattle.group_protocol.specs.Packets.{bodies_of, Packet}
-use Rattle.group_protocol.specs.Protocol.{on_message, row}
-use Rattle.group_protocol.specs.ProposerRows.{on_campaign}
+use Rattle.group_protocol.specs.Protocol.{on_message, response_to}
+use Rattle.group_protocol.specs.ProposerResponses.{on_campaign}
 use Rattle.group_protocol.specs.Pump.{accepts_of, pump}
 use Rattle.group_protocol.specs.Tick.{accept_again, accepts_again, asks, asks_again, on_tick, prepares_again, ticked}
 use Rattle.group_protocol.specs.WaitingKeys.{batch_of, count_read, waiting_keys}
@@ -82,16 +82,16 @@ answering_goes : (n : Known) (to : To) (answer : Answer) → IsAsked None answer
 answering_goes n to answer says = record { next = refl; asked = one_asked None _ says }
 
 -- a message of any kind
-row_goes : (n : Known) (j : ℕ) (body : Body) → Goes n None (row n j body)
-row_goes n j (Prepare b from) = answering_goes n _ (prepare_of n.kept b from) (grind (arith, nat_tests))
-row_goes n j (Promise b first upto votes) =
+response_goes : (n : Known) (j : ℕ) (body : Body) → Goes n None (response_to n j body)
+response_goes n j (Prepare b from) = answering_goes n _ (prepare_of n.kept b from) (grind (arith, nat_tests))
+response_goes n j (Promise b first upto votes) =
     grind (arith, nat_tests, none_asked None, both_asked None, accepts_asked None)
-row_goes n j (Accept b s v) = answering_goes n _ (accept_of n.kept b s v) (grind (arith, nat_tests))
-row_goes n j (Accepted b s v) = record { next = refl; asked = none_asked None }
-row_goes n j (Refused b promised) = record { next = refl; asked = none_asked None }
-row_goes n j (Submit v) = grind (arith, nat_tests, none_asked None, both_asked None, accepts_asked None)
-row_goes n j (Ask from) = record { next = refl; asked = tells_asked None _ j _ }
-row_goes n j (Tell s v) = record { next = refl; asked = none_asked None }
+response_goes n j (Accept b s v) = answering_goes n _ (accept_of n.kept b s v) (grind (arith, nat_tests))
+response_goes n j (Accepted b s v) = record { next = refl; asked = none_asked None }
+response_goes n j (Refused b promised) = record { next = refl; asked = none_asked None }
+response_goes n j (Submit v) = grind (arith, nat_tests, none_asked None, both_asked None, accepts_asked None)
+response_goes n j (Ask from) = record { next = refl; asked = tells_asked None _ j _ }
+response_goes n j (Tell s v) = record { next = refl; asked = none_asked None }
 
 -- no more keys leave than wait
 count_few : (read keys : List Key) → count_read read keys ≤ length keys
@@ -105,8 +105,8 @@ keys_many node start serial (byte ∷ bytes) = ap suc (keys_many node start (ser
 -- a message, after which keys that are read no longer wait
 pub message_goes : (n : Known) (j : ℕ) (body : Body) → Goes n None (on_message n j body)
 message_goes n j body =
-    let goes = row_goes n j body in
-    let at : Known = (row n j body).node in
+    let goes = response_goes n j body in
+    let at : Known = (response_to n j body).node in
     let read : List Key = keys_in_order (front_values at.learner.learned) in
     let many = keys_many at.me.node at.kept.starts at.first at.waiting in
     record {

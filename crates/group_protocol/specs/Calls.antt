@@ -1,6 +1,6 @@
 -- A node's part in the protocol after a call, by its response.
 use Rattle.std.specs.Prelude.{◌≡◌, ◌≢◌, ◌↔◌, ◌⊎◌, ◌+◌, ◌<◌, true, false, List, [], ◌∷◌, ◌++◌, length, None, Result, Err, OnOk, OnErr, IsErrOf}
-use Rattle.paxos_acceptor.specs.Calls.{FailsOnlyWith, Mut}
+use Rattle.base.specs.Calls.{FailsOnlyWith, Mut}
 use Rattle.paxos_acceptor.specs.Stores.{StoreKind, FailsAsPlanned, CountsIf, IsOneOf}
 use Rattle.paxos_acceptor.specs.declared.fault.AcceptorFault.{AcceptorFault}
 use Rattle.paxos_acceptor.specs.declared.fault.AcceptorFault.TheVariants as acceptor
@@ -11,7 +11,7 @@ use Rattle.group_protocol.specs.declared.limits.TheConstants.{MOST_WAITING}
 use Rattle.group_protocol.specs.Packets.{Datagram, datagrams_of, Queue}
 use Rattle.group_protocol.specs.Known.{Known, Response, front, next_serial}
 use Rattle.group_protocol.specs.States.{Protocol}
-use Rattle.group_protocol.specs.ProposerRows.{last_round}
+use Rattle.group_protocol.specs.ProposerResponses.{last_round}
 use Rattle.paxos_msg.specs.Batches.{Record}
 use Rattle.paxos_msg.specs.declared.limits.TheConstants.{LAST_ROUND, LAST_SERIAL, PLACES}
 
@@ -85,13 +85,14 @@ RefusesIfStopped old result = IsErrOf result Stopped ↔ (old.is_stopped ≡ tru
 -- It is `Stopped` exactly if a save has failed. Otherwise it is `OutboxFull` exactly if the outbox
 -- holds a packet, so that fewer than 64 places are free.
 -- Forbids: a call that sends into an outbox with a packet.
-pub record RefusesUnlessLet {S T : Type 0} (old : Protocol S) (before : List Datagram)
+pub record RefusesUnlessAdmitted {S T : Type 0} (old : Protocol S) (before : List Datagram)
     (result : Result T NodeFault) : Type 0 where
   pub stopped : RefusesIfStopped old result
   pub full : IsErrOf result OutboxFull ↔ ((old.is_stopped ≡ false) × (0 < length before))
 
--- The facts of a call that is taken: no save has failed, and all 64 places of the outbox are free.
-pub record IsLet {S : Type 0} (old : Protocol S) (before : List Datagram) : Type 0 where
+-- The facts of a call that is admitted: no save has failed, and all 64 places of the outbox are
+-- free.
+pub record IsAdmitted {S : Type 0} (old : Protocol S) (before : List Datagram) : Type 0 where
   pub is_open : old.is_stopped ≡ false
   pub is_free : before ≡ []
 
@@ -120,7 +121,7 @@ pub record IsCampaignRefused {T : Type 0} (n : Known) (result : Result T NodeFau
   pub spare_saved : IsErrOf result Store → last_round n < LAST_ROUND
 
 -- The node's part in the protocol, the outbox and the store after a call with this response, which
--- was let in.
+-- was admitted.
 pub record DoesAndSaves {S T : Type 0} (kind : StoreKind S) (done : Response)
     (part : Mut (Protocol S)) (outbox : Mut Queue) (result : Result T NodeFault) : Type 0 where
   pub does : Does part.entry.now part.exit.now outbox.entry.now.packets outbox.exit.now.packets

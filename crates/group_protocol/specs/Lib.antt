@@ -1,10 +1,10 @@
 pub mod Packets
 pub mod Known
-pub mod AcceptorRows
-pub mod LearnerRows
+pub mod AcceptorResponses
+pub mod LearnerResponses
 pub mod WaitingKeys
 pub mod Pump
-pub mod ProposerRows
+pub mod ProposerResponses
 pub mod Tick
 pub mod Protocol
 pub mod Backs

@@ -56,7 +56,7 @@ pub record IsDelivered (sent : Sent) (n : Known) (j : ℕ) (body : Body) : Type 
 
 -- ---- what a group says of all that was sent
 
--- The claim that each value that a Tell has sent is chosen.
+-- The claim that each value that a Tell reports is chosen.
 abbrev pub AllChosen : ℕ → Sent → Type 0
 AllChosen size sent = (s : ℕ) (v : Value) → IsSaid sent (Tell s v) → IsChosen size sent s v
 

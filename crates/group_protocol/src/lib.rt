@@ -13,15 +13,15 @@
 //! is such a part with the machine of a p-code program.
 #![tactic(auto)]
 
-mod acceptor_rows;
+mod acceptor_responses;
 mod config;
 mod fault;
 pub mod laws;
-mod learner_rows;
+mod learner_responses;
 pub mod limits;
 mod outbox;
 mod packet;
-mod proposer_rows;
+mod proposer_responses;
 mod protocol;
 mod pump;
 mod start;

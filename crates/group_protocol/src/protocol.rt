@@ -3,20 +3,20 @@
 ghost use Rattle.std.specs.Prelude.{◌≡◌, ◌⊎◌, ◌+◌, ◌<◌, ◌≤◌, [], ◌∷◌, false, length, IfErr, IfOk, IsErrOf, IsSome, OnOk};
 ghost use Rattle.paxos_msg.specs.declared.limits.TheConstants.{LAST_SERIAL};
 ghost use Rattle.group_protocol.specs.declared.limits.TheConstants.{MOST_WAITING, TICK_PACKETS};
-ghost use Rattle.paxos_acceptor.specs.Calls.{FailsOnlyWith};
+ghost use Rattle.base.specs.Calls.{FailsOnlyWith};
 ghost use Rattle.paxos_acceptor.specs.Stores.{HasSameOwner, IsStoreOf, MayLoadNoMore, MayLoadOnly};
 ghost use Rattle.group_protocol.specs.Ranges.{IsInRange};
 ghost use Rattle.group_protocol.specs.Known.{on_typed, new_key, next_serial};
 ghost use Rattle.paxos_msg.specs.Datagrams.{Fits};
-ghost use Rattle.group_protocol.specs.Calls.{Does, DoesAndSaves, IsCampaignRefused, IsLet, RefusesUnlessLet, Knows, IsTypingRefused, MayFailToSave, RefusesIfStopped};
-ghost use Rattle.group_protocol.specs.Protocol.{answer_to, NeedsMemory, row};
-ghost use Rattle.group_protocol.specs.ProposerRows.{is_leading, on_campaign, own_ballot};
+ghost use Rattle.group_protocol.specs.Calls.{Does, DoesAndSaves, IsCampaignRefused, IsAdmitted, RefusesUnlessAdmitted, Knows, IsTypingRefused, MayFailToSave, RefusesIfStopped};
+ghost use Rattle.group_protocol.specs.Protocol.{answer_to, NeedsMemory, response_to};
+ghost use Rattle.group_protocol.specs.ProposerResponses.{is_leading, on_campaign, own_ballot};
 ghost use Rattle.group_protocol.specs.Tick.{on_tick};
 ghost use Rattle.group_protocol.specs.WaitingKeys.{without_read};
 
 use crate::config::Config;
 use crate::fault::NodeFault;
-use crate::laws::{rows_fit, what_goes_out_fits};
+use crate::laws::{responses_fit, what_goes_out_fits};
 use crate::limits::{MOST_PACKETS, MOST_WAITING};
 use crate::outbox::Outbox;
 use crate::waiting_keys::Waiting;
@@ -118,7 +118,7 @@ impl<S: Store> Protocol<S> {
     /// `Ok` the first waiting keys, up to one that is not below the known front, wait no more.
     pub fn on_message(&mut self, view: &View<'_>, outbox: &mut Outbox) -> Result<(), NodeFault>
         requires fits { Fits self.old.known.me.group view.now }
-        ensures let_in { RefusesUnlessLet self.old outbox.old.packets result }
+        ensures admitted { RefusesUnlessAdmitted self.old outbox.old.packets result }
         ensures responds { DoesAndSaves S.kind (answer_to view.now self.old.known) self outbox
             result }
         ensures needs { IsErrOf result NodeFault.Memory
@@ -126,8 +126,8 @@ impl<S: Store> Protocol<S> {
         ensures others { FailsOnlyWith (NodeFault.Stopped ∷ NodeFault.OutboxFull
             ∷ NodeFault.Memory ∷ NodeFault.Store ∷ []) result }
     {
-        self.let_in(outbox)?;
-        self.row(view, outbox)?;
+        self.admit_call(outbox)?;
+        self.respond(view, outbox)?;
         self.drop_read();
         Ok(())
     }
@@ -142,15 +142,15 @@ impl<S: Store> Protocol<S> {
     /// and asks all nodes for their promises from the known front on. A proposer that it had is
     /// dropped.
     pub fn campaign(&mut self, outbox: &mut Outbox) -> Result<(), NodeFault>
-        ensures let_in { RefusesUnlessLet self.old outbox.old.packets result }
+        ensures admitted { RefusesUnlessAdmitted self.old outbox.old.packets result }
         ensures responds { DoesAndSaves S.kind (on_campaign self.old.known) self outbox result }
-        ensures refuses { IsLet self.old outbox.old.packets
+        ensures refuses { IsAdmitted self.old outbox.old.packets
             → IsCampaignRefused self.old.known result }
         ensures others { FailsOnlyWith (NodeFault.Stopped ∷ NodeFault.OutboxFull
             ∷ NodeFault.RoundsSpent ∷ NodeFault.PlacesSpent ∷ NodeFault.Memory
             ∷ NodeFault.Store ∷ []) result }
     {
-        self.let_in(outbox)?;
+        self.admit_call(outbox)?;
         self.on_campaign(outbox)
     }
 
@@ -162,7 +162,7 @@ impl<S: Store> Protocol<S> {
     /// In this order the node asks acceptors for more promises, sends its open Accepts again,
     /// proposes, submits the first keys that wait, and asks for what was learned.
     pub fn tick(&mut self, outbox: &mut Outbox) -> Result<(), NodeFault>
-        ensures let_in { RefusesUnlessLet self.old outbox.old.packets result }
+        ensures admitted { RefusesUnlessAdmitted self.old outbox.old.packets result }
         ensures does { Does self.old self.new outbox.old.packets outbox.new.packets
             (on_tick self.old.known) result }
         ensures needs { IsErrOf result NodeFault.Memory
@@ -171,7 +171,7 @@ impl<S: Store> Protocol<S> {
         ensures others { FailsOnlyWith (NodeFault.Stopped ∷ NodeFault.OutboxFull
             ∷ NodeFault.Memory ∷ []) result }
     {
-        self.let_in(outbox)?;
+        self.admit_call(outbox)?;
         self.on_tick(outbox)
     }
 
@@ -299,10 +299,10 @@ impl<S: Store> Protocol<S> {
         }
     }
 
-    /// Checks that the node takes a call that may send. Fails with `Stopped` if its store has
+    /// Checks that the node admits a call that may send. Fails with `Stopped` if its store has
     /// failed, and with `OutboxFull` if the outbox has too little room.
-    fn let_in(&self, outbox: &Outbox) -> Result<(), NodeFault>
-        ensures let_in { RefusesUnlessLet self.now outbox.now.packets result }
+    fn admit_call(&self, outbox: &Outbox) -> Result<(), NodeFault>
+        ensures admitted { RefusesUnlessAdmitted self.now outbox.now.packets result }
         ensures loads { S.kind.honest → self.now.is_stopped ≡ false
             → MayLoadOnly S.kind self.now.store self.now.known.kept }
         ensures others { FailsOnlyWith (NodeFault.Stopped ∷ NodeFault.OutboxFull ∷ []) result }
@@ -319,12 +319,12 @@ impl<S: Store> Protocol<S> {
     }
 
     /// Does what the message's kind asks for.
-    fn row(&mut self, view: &View<'_>, outbox: &mut Outbox) -> Result<(), NodeFault>
+    fn respond(&mut self, view: &View<'_>, outbox: &mut Outbox) -> Result<(), NodeFault>
         requires fits { Fits self.old.known.me.group view.now }
         requires open { self.old.is_stopped ≡ false }
         requires empty { outbox.old.packets ≡ [] }
-        ensures responds { DoesAndSaves S.kind (row self.old.known view.now.sender view.now.body)
-            self outbox result }
+        ensures responds { DoesAndSaves S.kind
+            (response_to self.old.known view.now.sender view.now.body) self outbox result }
         ensures needs { IsErrOf result NodeFault.Memory
             → NeedsMemory self.old.known view.now.sender view.now.body }
         ensures others { MayFailToSave result }
@@ -359,7 +359,7 @@ impl<S: Store> Protocol<S> {
     fn drop_read(&mut self)
         ensures { Knows self.old self.new (without_read self.old.known) }
     {
-        rows_fit();
+        responses_fit();
         let start = self.acceptor.record().starts;
         self.waiting.leave_read(&self.learner, self.me.node, start);
     }

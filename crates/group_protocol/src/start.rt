@@ -1,6 +1,6 @@
 //! The start of a node's part in the protocol.
 ghost use Rattle.std.specs.Prelude.{◌≡◌, ◌<◌, [], ◌∷◌, false, IfErr, IfOk};
-ghost use Rattle.paxos_acceptor.specs.Calls.{IsAmong};
+ghost use Rattle.base.specs.Calls.{IsAmong};
 ghost use Rattle.paxos_acceptor.specs.Stores.{IsStoreOf, MayLoadOnly};
 ghost use Rattle.group_protocol.specs.Known.{begun, on_start};
 ghost use Rattle.group_protocol.specs.Ranges.{IsInRange};

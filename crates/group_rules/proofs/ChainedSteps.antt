@@ -32,7 +32,7 @@ use Rattle.group_rules.specs.Rules.{SubmitsWaiting, CallOrFall, ChangesOnly, Lea
 use Rattle.group_rules.specs.WrongSteps.{ballot_by}
 use Rattle.group_protocol.proofs.Elements.{each_of, only_in}
 use Rattle.group_rules.specs.Leads.{LeadsByRules, LeadsUnder, NodeDeed}
-use Rattle.group_rules.specs.RightGroups.{by, with_call, with_start}
+use Rattle.group_rules.specs.Reachable.{by, with_call, with_start}
 use Rattle.group_rules.proofs.SmallPrograms.{all_go, goes_by, is_step}
 use Rattle.group_rules.proofs.WrittenVotes.{at_listed, chosen_by, own_keys, votes_of}
 

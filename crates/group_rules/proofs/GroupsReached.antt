@@ -17,7 +17,7 @@ use Rattle.group_rules.specs.Claims.{HasLearned}
 use Rattle.group_rules.specs.Rules.{Up, WorldState, fresh, WorldStep, after_release, with_seat}
 use Rattle.group_rules.specs.WrongSteps.{ballot_by}
 use Rattle.group_rules.specs.Leads.{LeadsByRules}
-use Rattle.group_rules.specs.RightGroups.{opening_ballot, first_batch, propose_deeds, takeover_deeds, three_new, two_learn_deeds, two_show_deeds, one_new, second_batch, two_starts_deeds, restart_deeds, by, first_chosen_deeds, first_start_deeds, later_ballot}
+use Rattle.group_rules.specs.Reachable.{opening_ballot, first_batch, propose_deeds, takeover_deeds, three_new, two_learn_deeds, two_show_deeds, one_new, second_batch, two_starts_deeds, restart_deeds, by, first_chosen_deeds, first_start_deeds, later_ballot}
 use Rattle.group_rules.proofs.ChainedSteps.{◌▸◌, Reaches, and_then, campaigns, hears, key_1, knowing, learns, presses, proposes, report, starts, stop, ticks, typed_by, typing, votes, StepLaw, releases, runs, crashes, released, promised, safe_at_first, submits_one}
 use Rattle.group_rules.proofs.WrittenVotes.{are_chosen, at_listed, chosen_by, has_learned}
 use Rattle.pcode_machine.specs.Runs.{after_steps}

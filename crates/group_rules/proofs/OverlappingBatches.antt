@@ -10,7 +10,7 @@ use Rattle.paxos_learner.specs.Input.{front_values, input_of, keys_in_order}
 use Rattle.group_node.specs.Inputs.{AreChosen}
 use Rattle.group_protocol.proofs.Elements.{entries_one}
 use Rattle.group_rules.specs.Leads.{LeadsByRules}
-use Rattle.group_rules.specs.RightGroups.{opening_ballot, first_batch, first_two, last_two, one_new, overlapping_deeds}
+use Rattle.group_rules.specs.Reachable.{opening_ballot, first_batch, first_two, last_two, one_new, overlapping_deeds}
 use Rattle.group_rules.specs.Rules.{LearnsOnly, Up, WorldState, fresh}
 use Rattle.group_rules.proofs.ChainedSteps.{◌▸◌, Reaches, and_then, campaigns, hears, hears_by, key_1, knowing, learns_at, makes_call, presses, promised, proposes, report, safe_at_first, starts, stop, submits_none, submits_one, ticks, typed_by, typing, votes}
 use Rattle.group_rules.proofs.GroupsReached.{waits}

@@ -18,7 +18,7 @@ use Rattle.group_node.specs.Inputs.{AreChosen}
 use Rattle.group_protocol.proofs.Elements.{entries_one}
 use Rattle.group_rules.specs.Claims.{KeysOnce, SerialsInOrder, serials_of}
 use Rattle.group_rules.specs.Leads.{LeadsUnder}
-use Rattle.group_rules.specs.RightGroups.{by, first_batch, first_chosen_deeds, first_kept, first_start_deeds, hears_from, later_ballot, one_new, opening_ballot, with_call}
+use Rattle.group_rules.specs.Reachable.{by, first_batch, first_chosen_deeds, first_kept, first_start_deeds, hears_from, later_ballot, one_new, opening_ballot, with_call}
 use Rattle.group_rules.specs.Rules.{Up, WorldState, fresh, with_seat}
 use Rattle.group_rules.specs.WeakerRules
 use Rattle.group_rules.specs.WeakerRules.{CallsWithout, StepWithout, WeakerStep}

@@ -20,12 +20,12 @@ use Rattle.group_node.specs.Deeds as deed
 use Rattle.group_node.specs.Inputs.{IsInput}
 use Rattle.group_rules.specs.Claims.{ConsolesHoldOutput, ConsolesShowReleased, LearnedChosen, LearnedStays}
 use Rattle.group_rules.specs.Leads.{LeadsUnder}
-use Rattle.group_rules.specs.RightGroups.{by, first_batch, first_two, hears_from, later_ballot, one_new, opening_ballot, with_call}
+use Rattle.group_rules.specs.Reachable.{by, first_batch, first_two, hears_from, later_ballot, one_new, opening_ballot, with_call}
 use Rattle.group_rules.specs.Rules.{LearnsOnly, Up, WorldState, fresh, with_seat}
 use Rattle.group_rules.specs.WeakerRules
 use Rattle.group_rules.specs.WeakerRules.{StepWithout, WeakerStep}
 use Rattle.group_rules.specs.WithoutRules.{learned_again_deeds, run_out_deeds, ticked_deeds, ticked_out_deeds, told_deeds, voted_back_deeds}
-use Rattle.group_rules.specs.WrongWorlds.{silent}
+use Rattle.group_rules.specs.Counterexamples.{silent}
 use Rattle.group_rules.proofs.ChainedSteps.{◌▸◌, Reaches, campaigns, crashes, hears, hears_by, key_1, knowing, learns, learns_nothing, makes_call, presses, promised, proposes, releases, report, rest_by, rest_seat, safe_at_first, seat_by, starts, still, stop, submits_none, submits_one, ticks, typed_by, typing, votes}
 use Rattle.group_rules.proofs.GroupsReached.{waits}
 use Rattle.group_rules.proofs.SmallPrograms.{stays, written_by}

@@ -4,8 +4,8 @@ pub mod Claims
 pub mod Invariants
 pub mod WrongSteps
 pub mod SmallPrograms
-pub mod RightGroups
+pub mod Reachable
 pub mod WeakerRules
 pub mod WithoutRules
-pub mod WrongGroups
-pub mod WrongWorlds
+pub mod FarCounterexamples
+pub mod Counterexamples

@@ -7,7 +7,7 @@ use Rattle.paxos_msg.specs.Batches.{Record}
 use Rattle.paxos_msg.specs.Records.{empty_record}
 use Rattle.group_node.specs.Deeds.{Campaign, Crash, Press, Release, Run, Start, Tick}
 use Rattle.group_rules.specs.Leads.{NodeDeed}
-use Rattle.group_rules.specs.RightGroups.{by, first_batch, first_chosen_deeds, first_kept, first_start_deeds, first_two, hears_from, later_ballot, opening_ballot}
+use Rattle.group_rules.specs.Reachable.{by, first_batch, first_chosen_deeds, first_kept, first_start_deeds, first_two, hears_from, later_ballot, opening_ballot}
 
 -- ---- the order of keys
 

@@ -25,16 +25,16 @@ abbrev pub ballot_by : ℕ → ℕ → Ballot
 ballot_by node round = record { round = round; node = node }
 
 -- The key of the third start of node 9 with this serial and character.
-abbrev pub ninth_key : ℕ → ℕ → Key
-ninth_key serial byte = record { node = 9; start = 3; serial = serial; byte = byte }
+abbrev pub key_of_9 : ℕ → ℕ → Key
+key_of_9 serial byte = record { node = 9; start = 3; serial = serial; byte = byte }
 
 -- Two keys of that start, with the serials 40 and 41.
 abbrev pub both_keys : List Key
-both_keys = ninth_key 40 65 ∷ ninth_key 41 66 ∷ []
+both_keys = key_of_9 40 65 ∷ key_of_9 41 66 ∷ []
 
 -- The batch of key 40 of the third start of node 9, with this character.
-abbrev pub fortieth : ℕ → Value
-fortieth byte = Keys 9 3 40 (byte ∷ [])
+abbrev pub batch_40 : ℕ → Value
+batch_40 byte = Keys 9 3 40 (byte ∷ [])
 
 -- The record of a node with this many starts, which has promised this ballot and has no vote.
 abbrev pub kept_by : ℕ → Ballot → Record
@@ -162,7 +162,7 @@ sent_by_fifth body = record { sender = 5; body = body }
 -- The one message of node 7 that proposes a value at place 700, under its ballot of round 40.
 abbrev pub seventh_proposes : Sent
 seventh_proposes =
-    (record { sender = 7; body = Accept (ballot_by 7 40) 700 (fortieth 65) }) ∷ []
+    (record { sender = 7; body = Accept (ballot_by 7 40) 700 (batch_40 65) }) ∷ []
 
 -- ---- groups
 
@@ -201,7 +201,7 @@ nine_up up = nine (seat_up kept_third [] up) [] []
 abbrev pub nine_hear : Body → Record → WorldState
 nine_hear body kept =
     nine (seat_up kept [] (up_learned empty))
-    ((record { sender = 7; body = Accept (ballot_by 7 41) 700 (fortieth 65) })
+    ((record { sender = 7; body = Accept (ballot_by 7 41) 700 (batch_40 65) })
     ∷ sent_by_fifth body ∷ []) []
 
 -- Nine nodes without messages and keys; node 9 is up with this record.
@@ -221,12 +221,12 @@ nine_show console up = nine (seat_up kept_third console up) [] []
 abbrev pub nine_sent : Sent → WorldState
 nine_sent sent = nine (seat_up kept_third [] (up_learned empty)) sent []
 
--- Nine nodes; at node 9 wait the first of these keys, and the next one has this serial. The second
--- were typed.
+-- Nine nodes; the keys `waiting` wait at node 9, whose next key has the serial `next`, and the keys
+-- `typed` were typed.
 abbrev pub nine_type : ℕ → List Key → List Key → WorldState
 nine_type next waiting typed = nine (seat_up kept_third [] (up_next next waiting)) [] typed
 
--- Nine nodes; at node 9 wait the first of these keys, the second were typed, and the node has
+-- Nine nodes; the keys `waiting` wait at node 9, the keys `typed` were typed, and the node has
 -- submitted these values.
 abbrev pub nine_submit : List Key → List Key → List Value → WorldState
 nine_submit waiting typed values =

@@ -1,5 +1,6 @@
 -- What a script does to a group and to a writer, line by line.
 use Rattle.std.specs.Prelude.{◌≡◌, ◌⊎◌, ℕ, zero, suc, ◌+◌, ◌-◌, ◌<◌, ◌≤◌, codes, decimal, Bool, true, false, ◌&&◌, ◌==◌, List, [], ◌++◌, length, slice_get, Option, Some, None, is_some, option_map, unwrap_or, IfSome, IsNone, Result, Ok, Err, IfOk, OnErr}
+use Rattle.base.specs.Calls.{Mut}
 use Rattle.pcode_file.specs.Parts.{Parts}
 use Rattle.group_protocol.specs.declared.fault.NodeFault.{NodeFault}
 use Rattle.group_protocol.specs.Fault.{code_of}
@@ -21,7 +22,6 @@ use Rattle.group_world.specs.declared.script.Script.{Script}
 use Rattle.group_world.specs.Event.{Goes, kept_event}
 use Rattle.group_world.specs.Group.{World, new_world}
 use Rattle.group_world.specs.Refusals.{IsRefused}
-use Rattle.machine_run.specs.Streams.{Borrowed}
 use Rattle.machine_run.specs.declared.run.RunIo.{RunIo}
 use Rattle.machine_run.specs.declared.run.RunIo.TheVariants.{Write}
 use Rattle.group_sim.specs.declared.limits.TheConstants.{DELIVERIES, SETTLE_STEPS}
@@ -67,7 +67,7 @@ pub record HaltsAt (task : ℕ → Task) (first number : ℕ) (a : Moment) (h : 
 
 -- A task that a call performs on a simulation and a writer which it borrows.
 abbrev pub PerformsTask : {W : Type 0} → (W → Option (List ℕ)) → (W → ℕ) → Task
-    → Borrowed Simulation → Borrowed W → Result (Unit {0}) ScriptHalt → Type 0
+    → Mut Simulation → Mut W → Result (Unit {0}) ScriptHalt → Type 0
 PerformsTask contents faults task simulation writer r =
     task (moment simulation.entry.now (held contents faults writer.entry.now)) r
     (moment simulation.exit.now (held contents faults writer.exit.now))

@@ -1,8 +1,8 @@
 -- What a write of a text does.
 use Rattle.std.specs.Prelude.{◌≡◌, ℕ, List, ◌++◌, Option, Result, MatchResult}
 use Rattle.std.specs.Io.KnownBytes.{Appends}
+use Rattle.base.specs.Calls.{Mut}
 use Rattle.base.specs.Faults.{HasRisen}
-use Rattle.machine_run.specs.Streams.{Borrowed}
 
 -- What is known of a writer: the bytes that it holds, where they are known, and how many of its
 -- writes have failed or taken nothing.
@@ -34,7 +34,7 @@ WritesText old r new text =
     MatchResult r (λ _. AppendsText old new text) (λ _. AppendsFront old new text)
 
 -- A call that writes a text to a writer that it borrows.
-abbrev pub PutsText : {W E : Type 0} → (W → Option (List ℕ)) → (W → ℕ) → Borrowed W
+abbrev pub PutsText : {W E : Type 0} → (W → Option (List ℕ)) → (W → ℕ) → Mut W
     → Result (Unit {0}) E → List ℕ → Type 0
 PutsText contents faults writer r text =
     WritesText (held contents faults writer.entry.now) r (held contents faults writer.exit.now) text

@@ -3,7 +3,7 @@ ghost use Rattle.std.specs.Prelude.{◌≤◌, length};
 
 use crate::program::reading_program;
 use group_node::{Config, NodeFault};
-use group_wire::{Host, Told, Wire};
+use group_wire::{Host, TraceEvent, Wire};
 use paxos_acceptor::MemoryStore;
 use paxos_msg::Record;
 use pcode_ops::Program;
@@ -128,7 +128,7 @@ impl Wire for Network {
         }
     }
 
-    fn tell(&mut self, _: &Told<'_>) {}
+    fn trace(&mut self, _: &TraceEvent<'_>) {}
 }
 
 /// A node of the group, and what it has released of the keys. Contracts see nothing of it, so that

@@ -173,7 +173,7 @@ const ENDS: [(u8, [Act; 4], usize, WorldFault); 6] = [
     ),
 ];
 
-/// Shows running::run (size, refused): where a list of events ends early, and why.
+/// Shows performing::run (size, refused): where a list of events ends early, and why.
 #[test]
 fn lists_that_end_early(rt: HostRuntime) -> Result<(), Fail> {
     for (size, acts, event, fault) in ENDS {

@@ -5,7 +5,7 @@ use Rattle.group_udp.specs.declared.pace.Pace.{Pace}
 
 -- The pace of a node that starts.
 abbrev pub first_pace : Pace
-first_pace = record { rest = SHORT_REST; first = SHORT_REST; is_sending = false }
+first_pace = record { rest = SHORT_REST; first = SHORT_REST; sent_before = false }
 
 -- A pace whose rest and first pause take 10 to 200 milliseconds.
 pub record IsPace (pace : Pace) : Type 0 where
@@ -28,7 +28,7 @@ first_after first (Some took) =
 abbrev pub rest_after : Pace → Option ℕ → Bool → ℕ
 rest_after p (Some took) true = first_after p.first (Some took)
 rest_after p (Some took) false = LONG_REST
-rest_after p None true = if p.is_sending then min (2 * p.rest) LONG_PAUSE else p.first
+rest_after p None true = if p.sent_before then min (2 * p.rest) LONG_PAUSE else p.first
 rest_after p None false = LONG_REST
 
 -- The pace at the next rest.
@@ -36,7 +36,7 @@ abbrev pub pace_after : Pace → Option ℕ → Bool → Pace
 pace_after p learned has_sent = record {
   rest = rest_after p learned has_sent;
   first = first_after p.first learned;
-  is_sending = has_sent;
+  sent_before = has_sent;
 }
 
 -- The time that a rest takes at least in a group of so many nodes while keys are under way, by the

@@ -73,9 +73,9 @@ IsCutShort until from millis cut =
 -- Allows: no other end, where something was sent before.
 pub record NotesSent (old : Rest) (now : Option Instant) (new : Rest) : Type 0 where
   pub rest : new ≡ record old { has_sent = true; until = new.until; since = new.since }
-  pub first : old.pace.is_sending ≡ false
+  pub first : old.pace.sent_before ≡ false
       → IsCutShort old.until now old.pace.first new.until × (new.since ≡ now)
-  pub again : old.pace.is_sending ≡ true → (new.until ≡ old.until) × (new.since ≡ old.since)
+  pub again : old.pace.sent_before ≡ true → (new.until ≡ old.until) × (new.since ≡ old.since)
 
 -- A rest once a place is learned, in a group of so many nodes. It ends as soon as a rest may while
 -- keys are under way.

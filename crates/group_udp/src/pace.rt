@@ -13,7 +13,7 @@ pub struct Pace {
     /// The first pause between repeats: about twice the time from the last sending to learning.
     pub first: u64,
     /// True if the node sent anything but Asks before the rest.
-    pub is_sending: bool,
+    pub sent_before: bool,
 }
 
 impl Pace {
@@ -24,7 +24,7 @@ impl Pace {
         Pace {
             rest: SHORT_REST,
             first: SHORT_REST,
-            is_sending: false,
+            sent_before: false,
         }
     }
 
@@ -50,7 +50,7 @@ impl Pace {
     fn rest_after(self, learned: Option<u64>, has_sent: bool) -> u64
         ensures { result ≡ rest_after self learned has_sent }
     {
-        match (learned.is_some(), has_sent, self.is_sending) {
+        match (learned.is_some(), has_sent, self.sent_before) {
             (false, true, true) => self.rest.min(LONG_PAUSE / 2) * 2,
             (_, true, _) => self.first_after(learned),
             (_, false, _) => LONG_REST,
@@ -71,7 +71,7 @@ impl Pace {
         Pace {
             rest: self.rest_after(learned, has_sent),
             first: self.first_after(learned),
-            is_sending: has_sent,
+            sent_before: has_sent,
         }
     }
 

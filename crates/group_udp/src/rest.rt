@@ -8,7 +8,7 @@ use crate::pace::Pace;
 use std::time::{Duration, Instant};
 
 /// The last rest of a node, and what has happened since it began. A time that the clock could not
-/// tell is `None`: then the rest is over.
+/// tell is `None`. Without `until` the rest is over.
 #[derive(Clone, Copy)]
 pub struct Rest {
     /// When it began, and when it ends.
@@ -19,9 +19,9 @@ pub struct Rest {
     front: u32,
     /// True if anything but Asks was sent since then, and since a place was learned in it.
     has_sent: bool,
-    /// From when on the time to learn a place counts: the begin of the rest, if anything but Asks
-    /// was sent before it, or else the first such sending in it, or since a place was learned
-    /// there.
+    /// From when on the time to learn a place counts. If anything but Asks was sent before the
+    /// rest, that is its beginning; otherwise the first such sending in it. Once a place was
+    /// learned in it, it is the first such sending after that. `None` if there was none.
     since: Option<Instant>,
 }
 
@@ -122,7 +122,7 @@ impl Rest {
         requires unsent { self.old.has_sent ≡ false }
         ensures { NotesSent self.old now self.new }
     {
-        if !self.pace.is_sending {
+        if !self.pace.sent_before {
             self.until = earlier(self.until, later(now, self.pace.first));
             self.since = now;
         }

@@ -1,7 +1,7 @@
 //! The trace of a node: a file in which it writes down its calls, and what it sends at each.
 use crate::kinds::may_save;
 use group_log::{Call, Recent, Traced, millis_now, traced_line};
-use group_wire::Told;
+use group_wire::TraceEvent;
 use paxos_msg::Group;
 use std::fs::{self, OpenOptions};
 use std::io::{ErrorKind, Write};
@@ -124,25 +124,25 @@ impl<'a, H: Files + Clock + AllocGlobal> Trace<'a, H> {
         self.write(traced);
     }
 
-    /// Writes what the node tells.
-    pub fn tell(&mut self, told: &Told<'_>) {
-        match *told {
-            Told::Started => self.write_started(),
-            Told::BeginsToHear(bytes) => {
+    /// Writes an event of the node.
+    pub fn write_event(&mut self, event: &TraceEvent<'_>) {
+        match *event {
+            TraceEvent::Started => self.write_started(),
+            TraceEvent::BeginsToHear(bytes) => {
                 if may_save(bytes) {
                     self.begins(Call::Hear, &Traced::BeginsHear(bytes));
                 }
             }
-            Told::Heard(bytes) => self.write(&Traced::Heard(self.source, bytes)),
-            Told::Pressed(byte) => self.write(&Traced::Pressed(byte)),
-            Told::BeginsToCampaign => self.begins(Call::Campaign, &Traced::BeginsCampaign),
-            Told::Campaigned => self.write(&Traced::Campaigned),
-            Told::Ticked => self.write(&Traced::Ticked),
-            Told::Ran(steps) => self.write(&Traced::Ran(steps)),
-            Told::Released(number, byte) => self.write(&Traced::Released(number, byte)),
-            Told::Sends(to, bytes) => self.write(&Traced::Sent(to, bytes)),
-            Told::Failed => self.write(&Traced::Failed(self.begun)),
-            Told::Ended(status) => self.write(&Traced::Ended(status)),
+            TraceEvent::Heard(bytes) => self.write(&Traced::Heard(self.source, bytes)),
+            TraceEvent::Pressed(byte) => self.write(&Traced::Pressed(byte)),
+            TraceEvent::BeginsToCampaign => self.begins(Call::Campaign, &Traced::BeginsCampaign),
+            TraceEvent::Campaigned => self.write(&Traced::Campaigned),
+            TraceEvent::Ticked => self.write(&Traced::Ticked),
+            TraceEvent::Ran(steps) => self.write(&Traced::Ran(steps)),
+            TraceEvent::Released(number, byte) => self.write(&Traced::Released(number, byte)),
+            TraceEvent::Sends(to, bytes) => self.write(&Traced::Sent(to, bytes)),
+            TraceEvent::Failed => self.write(&Traced::Failed(self.begun)),
+            TraceEvent::Ended(status) => self.write(&Traced::Ended(status)),
         }
     }
 }

@@ -9,7 +9,7 @@ use crate::rest::Rest;
 use crate::sources::{address_at, is_from_sender, taken_of};
 use crate::trace::Trace;
 use group_log::{DropReason, Drops, Sends, reason_of};
-use group_wire::{Told, Wire};
+use group_wire::{TraceEvent, Wire};
 use mio::net::UdpSocket;
 use mio::{Events, Interest, Poll, Token};
 use node_io::{CountedWire, GroupFault, RestingWire, Waited};
@@ -19,7 +19,7 @@ use std::net::{Net, SocketAddr};
 use std::rt::Files;
 use std::time::{Clock, Duration, Instant};
 
-/// Binds a socket at this address, whose calls never wait. Fails if that cannot be done.
+/// Returns a non-blocking socket that is bound to this address. Fails if the system gives none.
 pub fn bind<H: Net>(rt: &H, address: SocketAddr) -> Result<UdpSocket, GroupFault>
     ensures others { IfErr result IsSocketRefusal }
 {
@@ -127,8 +127,8 @@ pub struct UdpWire<'a, H: Files> {
 impl<'a, H: Clock + Files + AllocGlobal> UdpWire<'a, H> {
     /// Makes the wire of node `node` with this socket. `addresses` are those of the nodes, node 1
     /// first. Typed bytes end its waiting too, if the watch has a socket for them. The wire counts
-    /// the datagrams that a node of the group `counted` drops. Fails if the socket cannot be
-    /// watched, or memory runs out.
+    /// the datagrams that a node of the group `counted` drops, and those that it sends; without a
+    /// group it counts none. Fails if the socket cannot be watched, or memory runs out.
     pub fn new(
         rt: &'a H,
         node: u8,
@@ -256,9 +256,9 @@ impl<H: Clock + Files + AllocGlobal> Wire for UdpWire<'_, H> {
         }
     }
 
-    fn tell(&mut self, told: &Told<'_>) {
+    fn trace(&mut self, event: &TraceEvent<'_>) {
         if let Some(trace) = &mut self.trace {
-            trace.tell(told);
+            trace.write_event(event);
         }
     }
 }

@@ -11,7 +11,7 @@ use Rattle.group_protocol.specs.declared.fault.NodeFault.{NodeFault}
 use Rattle.group_protocol.specs.declared.fault.NodeFault.TheVariants.{Stopped, Store}
 use Rattle.group_protocol.specs.Known.{Known, front}
 use Rattle.group_protocol.specs.Packets.{datagrams_of}
-use Rattle.group_protocol.specs.ProposerRows.{last_round, on_campaign}
+use Rattle.group_protocol.specs.ProposerResponses.{last_round, on_campaign}
 use Rattle.paxos_msg.specs.declared.limits.TheConstants.{LAST_ROUND, PLACES}
 use Rattle.group_node.specs.Output.{IsReplay, unreleased_of}
 use Rattle.group_node.specs.States.{NodeState, input}

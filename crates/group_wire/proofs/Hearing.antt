@@ -8,7 +8,7 @@ use Rattle.paxos_msg.specs.Batches.{Msg, Record}
 use Rattle.paxos_acceptor.specs.Stores.{IsOneOf, StoreKind}
 use Rattle.group_protocol.specs.declared.fault.NodeFault.{NodeFault}
 use Rattle.group_protocol.specs.declared.fault.NodeFault.TheVariants.{Store}
-use Rattle.group_protocol.specs.Calls.{RefusesUnlessLet}
+use Rattle.group_protocol.specs.Calls.{RefusesUnlessAdmitted}
 use Rattle.group_protocol.specs.Protocol.{on_message}
 use Rattle.group_protocol.specs.States.{Protocol}
 use Rattle.group_protocol.specs.Known.{Known}
@@ -89,7 +89,7 @@ hears_then {S} {came} {later} {ending} {old} stays first second =
 
 -- a save fails only of a node that had not stopped
 pub was_open : {S T : Type 0} {old : Protocol S} {before : List Datagram} {result : Result T NodeFault}
-    → RefusesUnlessLet old before result → result ≡ Err Store → old.is_stopped ≡ false
+    → RefusesUnlessAdmitted old before result → result ≡ Err Store → old.is_stopped ≡ false
 was_open h failed = grind (arith, h.stopped)
 
 -- what it leaves, over the node's own group

@@ -1,13 +1,13 @@
 -- A campaign of a node on its wire.
 use Rattle.std.specs.Prelude.{◌≡◌, ◌⊎◌, ◌↔◌, ◌<◌, true, false, [], ◌∷◌, Option, Result, IsErrOf, OnErr, OnOk}
 use Rattle.paxos_msg.specs.declared.limits.TheConstants.{LAST_ROUND, PLACES}
-use Rattle.paxos_acceptor.specs.Calls.{FailsOnlyWith}
+use Rattle.base.specs.Calls.{FailsOnlyWith}
 use Rattle.paxos_acceptor.specs.Stores.{StoreKind}
 use Rattle.group_protocol.specs.declared.fault.NodeFault.{NodeFault}
 use Rattle.group_protocol.specs.declared.fault.NodeFault.TheVariants.{Memory, PlacesSpent, RoundsSpent, Stopped, Store}
 use Rattle.group_protocol.specs.Calls.{RefusesIfStopped, Saves}
 use Rattle.group_protocol.specs.Known.{front}
-use Rattle.group_protocol.specs.ProposerRows.{last_round, on_campaign}
+use Rattle.group_protocol.specs.ProposerResponses.{last_round, on_campaign}
 use Rattle.group_node.specs.States.{NodeState}
 use Rattle.group_wire.specs.Traffic.{Traffic, grown, handed, posted}
 

@@ -14,7 +14,7 @@ use Rattle.group_node.specs.NodeCalls.{Makes, NodeCall, Running, call_of_campaig
 use Rattle.group_node.specs.Output.{IsReplay, RunsOn}
 use Rattle.group_protocol.specs.Packets.{Datagram, datagrams_of}
 use Rattle.group_protocol.specs.Protocol.{NeedsMemory, on_message}
-use Rattle.group_protocol.specs.ProposerRows.{on_campaign}
+use Rattle.group_protocol.specs.ProposerResponses.{on_campaign}
 use Rattle.group_node.specs.States.{NodeState, input}
 use Rattle.group_protocol.specs.Tick.{on_tick}
 use Rattle.group_wire.specs.Arrivals.{Arrival, Ending, Fate, GoesOn, Hears, Loses, NoMessage, NoneCame, Refuses, Spells, TooLong}

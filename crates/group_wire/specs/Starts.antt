@@ -1,6 +1,6 @@
 -- The start of a node over its store.
 use Rattle.std.specs.Prelude.{◌≡◌, ◌⊎◌, [], ◌∷◌, Result, Err, IfErr, IfOk}
-use Rattle.paxos_acceptor.specs.Calls.{IsAmong}
+use Rattle.base.specs.Calls.{IsAmong}
 use Rattle.paxos_acceptor.specs.Stores.{StoreKind}
 use Rattle.paxos_acceptor.specs.declared.me.Me.{Me}
 use Rattle.pcode_file.specs.Parts.{Parts}

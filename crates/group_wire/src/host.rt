@@ -12,7 +12,7 @@ ghost use Rattle.group_wire.specs.Turns.{SameReleased};
 ghost use Rattle.group_wire.specs.Starts.{HasStarted};
 
 use crate::sending::send_all;
-use crate::told::Told;
+use crate::trace_event::TraceEvent;
 use crate::wire::Wire;
 use group_node::{Config, Node, NodeFault, Outbox, StartRefused};
 use paxos_acceptor::Store;
@@ -99,9 +99,9 @@ impl<'a, S: Store> Host<'a, S> {
             (T.traffic wire.old) (T.traffic wire.new) result }
         ensures stays { SameReleased self.old self.new }
     {
-        wire.tell(&Told::BeginsToCampaign);
+        wire.trace(&TraceEvent::BeginsToCampaign);
         self.node.campaign(&mut self.outbox)?;
-        wire.tell(&Told::Campaigned);
+        wire.trace(&TraceEvent::Campaigned);
         send_all(wire, &mut self.outbox, self.group.size);
         Ok(())
     }

@@ -7,7 +7,7 @@ ghost use Rattle.paxos_acceptor.specs.declared.me.Me.{Me};
 ghost use Rattle.group_node.specs.Deeds.{Campaign, Crash, Deed, Hear, Idle, Press, Release, Run, Start, Tick};
 ghost use Rattle.group_protocol.specs.Known.{next_serial};
 ghost use Rattle.group_protocol.specs.Protocol.{on_message};
-ghost use Rattle.group_protocol.specs.ProposerRows.{last_round};
+ghost use Rattle.group_protocol.specs.ProposerResponses.{last_round};
 ghost use Rattle.group_node.specs.States.{NodeState};
 ghost use Rattle.group_wire.specs.Arrivals.{Spells};
 ghost use Rattle.group_node.specs.NodeCalls.{Running, unreleased_by};

@@ -19,11 +19,11 @@ pub mod laws;
 pub mod limits;
 mod press;
 mod sending;
-mod told;
+mod trace_event;
 mod turns;
 mod wire;
 
 pub use answers::{Received, Tick, Turned};
 pub use host::Host;
-pub use told::Told;
+pub use trace_event::TraceEvent;
 pub use wire::Wire;

@@ -2,7 +2,7 @@
 ghost use Rattle.std.specs.Prelude.{◌≡◌, []};
 ghost use Rattle.group_wire.specs.Traffic.{grown, handed, letters_of, letters_to};
 
-use crate::told::Told;
+use crate::trace_event::TraceEvent;
 use crate::wire::Wire;
 use group_node::{Outbox, Packet, To};
 
@@ -23,7 +23,7 @@ fn send_packet<T: Wire>(wire: &mut T, packet: &Packet, size: u8)
         ≡ grown (T.traffic wire.old) (handed (letters_to size packet.now.to packet.now.bytes)) }
 {
     let bytes = packet.bytes.as_slice();
-    wire.tell(&Told::Sends(packet.to, bytes));
+    wire.trace(&TraceEvent::Sends(packet.to, bytes));
     match packet.to {
         To::All => send_to_all(wire, bytes, size),
         To::One(node) => {

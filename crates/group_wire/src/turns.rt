@@ -14,7 +14,7 @@ use crate::answers::{Received, Tick, Turned};
 use crate::host::Host;
 use crate::limits::{MOST_RECEIVES, TURN_STEPS};
 use crate::sending::send_all;
-use crate::told::Told;
+use crate::trace_event::TraceEvent;
 use crate::wire::Wire;
 use group_node::{Node, NodeFault, Ran};
 use group_protocol::laws::{calls_keep_what_is_learned, what_goes_out_fits};
@@ -82,12 +82,12 @@ impl<'a, S: Store> Host<'a, S> {
         // A node in its ranges stays who it is.
         what_goes_out_fits();
         self.node.record();
-        wire.tell(&Told::BeginsToHear(bytes));
+        wire.trace(&TraceEvent::BeginsToHear(bytes));
         if let Err(fault) = self.node.on_message(&view, &mut self.outbox) {
             unless_memory(fault)?;
             return Ok(Received::Lost);
         }
-        wire.tell(&Told::Heard(bytes));
+        wire.trace(&TraceEvent::Heard(bytes));
         send_all(wire, &mut self.outbox, self.group.size);
         Ok(Received::Message)
     }
@@ -158,7 +158,7 @@ impl<'a, S: Store> Host<'a, S> {
             unless_memory(fault)?;
             return Ok(Tick::Lost);
         }
-        wire.tell(&Told::Ticked);
+        wire.trace(&TraceEvent::Ticked);
         send_all(wire, &mut self.outbox, self.group.size);
         Ok(Tick::Made)
     }
@@ -183,7 +183,7 @@ impl<'a, S: Store> Host<'a, S> {
         let lost = self.hear_all(wire)?;
         let tick = self.tick(wire, rested)?;
         let ran = self.run()?;
-        wire.tell(&Told::Ran(TURN_STEPS));
+        wire.trace(&TraceEvent::Ran(TURN_STEPS));
         Ok(Turned { ran, tick, lost })
     }
 

@@ -2,7 +2,7 @@
 ghost use Rattle.std.specs.Prelude.{◌≡◌, ◌≤◌, [], ◌∷◌, length, take, None, Option, Some, IfNone, IfSome};
 ghost use Rattle.group_wire.specs.Traffic.{Receives, Hands, Traffic, grown};
 
-use crate::told::Told;
+use crate::trace_event::TraceEvent;
 
 /// A node's connection to its group, itself included. Datagrams may be lost, repeated, delayed and
 /// reordered. Datagrams that are not the group's may come too.
@@ -31,9 +31,9 @@ pub trait Wire {
         ensures idle { IfNone result
             (traffic self.new ≡ grown (traffic self.old) (Receives None ∷ [])) };
 
-    /// Is told what the node does: that a call begins which may save, before it saves; each call
+    /// Takes an event of the node, for a trace: a call that may save, before it saves; each call
     /// once it is done, before anything is sent at it; and each datagram before it is sent. Nothing
     /// passes.
-    fn tell(&mut self, told: &Told<'_>)
+    fn trace(&mut self, event: &TraceEvent<'_>)
         ensures passed { traffic self.new ≡ traffic self.old };
 }

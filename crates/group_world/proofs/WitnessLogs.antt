@@ -13,7 +13,7 @@ use Rattle.paxos_proposer.specs.Proposer.{Proposer, new_proposer, proposing}
 use Rattle.paxos_learner.specs.Entered.{keys_with}
 use Rattle.paxos_learner.specs.Tallies.{Tally, begun_tally}
 use Rattle.paxos_learner.proofs.OnePlace.{get_here}
-use Rattle.group_protocol.specs.Known.{Known, Response}
+use Rattle.group_protocol.specs.Known.{Known, Response, begun}
 use Rattle.group_protocol.specs.Packets.{to_all, to_one}
 use Rattle.group_protocol.specs.Pump.{pump}
 use Rattle.group_world.specs.Event.{kept_event}
@@ -25,7 +25,7 @@ use Rattle.group_world.specs.WrittenLogs.{started_times, three_nodes}
 use Rattle.group_rules.proofs.WrittenVotes.{own_keys}
 use Rattle.group_rules.proofs.SmallPrograms.{StepsLaw, echoes_first, writes_letter}
 use Rattle.group_world.proofs.WorldAsGroup.{ReadLaw, stopped}
-use Rattle.group_world.proofs.WrittenLogs.{◌▸◌, AreNumbered, Ran, Said, campaigns, hears, numbered, presses, releases, runs, starts, stop, ticks, crashes, fails, asking, campaigns_so, fresh, prepares, promised, unsaved}
+use Rattle.group_world.proofs.WrittenLogs.{◌▸◌, AreNumbered, Ran, Said, campaigns, hears, numbered, presses, releases, runs, starts, stop, ticks, crashes, fails, asking, campaigns_so, prepares, promised, unsaved}
 use Rattle.group_protocol.proofs.Elements.{entries_none, entries_one}
 use Rattle.group_world.specs.declared.event.Done.TheVariants.{Fell}
 use Rattle.group_world.specs.declared.event.Outcome.TheVariants.{FailedOld}
@@ -38,11 +38,11 @@ abbrev pub me : Me
 me = record { node = 1; group = one }
 
 -- a node that has started, and one that has promised
-abbrev begun : Me → Known
-begun me = fresh me (started_times 1)
+abbrev just_started : Me → Known
+just_started me = begun me (started_times 1)
 
 abbrev promises : Me → Known
-promises me = fresh me promised_record
+promises me = begun me promised_record
 
 -- node 1 campaigns; it has one promise, and then two; it has proposed
 abbrev leading : Proposer → Known
@@ -63,7 +63,7 @@ holds = record (promises node_2) { waiting = 65 ∷ [] }
 
 -- node 3 has voted, has heard node 2, and has learned the letter
 abbrev voter : Known
-voter = fresh node_3 voted_record
+voter = begun node_3 voted_record
 
 abbrev tally : Tally
 tally = begun_tally 2 ballot letter_value
@@ -114,9 +114,9 @@ module _ (steps : StepsLaw) (read : ReadLaw) where
       starts 1 0 refl refl
       ▸ starts 2 0 refl refl
       ▸ starts 3 0 refl refl
-      ▸ campaigns 1 (begun node_1) refl (prepares node_1 1) (campaigns_so node_1 1)
-      ▸ hears 2 (begun node_2) refl 0 1 (Prepare ballot 0) (promising node_2) (number 1 0 _ refl) refl
-      ▸ hears 3 (begun node_3) refl 0 1 (Prepare ballot 0) (promising node_3) (number 2 0 _ refl) refl
+      ▸ campaigns 1 (just_started node_1) refl (prepares node_1 1) (campaigns_so node_1 1)
+      ▸ hears 2 (just_started node_2) refl 0 1 (Prepare ballot 0) (promising node_2) (number 1 0 _ refl) refl
+      ▸ hears 3 (just_started node_3) refl 0 1 (Prepare ballot 0) (promising node_3) (number 2 0 _ refl) refl
       ▸ hears 1 (asking node_1 1) refl 1 2 (Promise ballot 0 65536 []) (quiet (leading half)) (number 3 1 _ refl) refl
       ▸ hears 1 (leading half) refl 2 3 (Promise ballot 0 65536 []) (quiet (leading whole)) (number 3 2 _ refl) refl
       ▸ presses 2 (promises node_2) refl 65 holds letter_value (omega arith) refl
@@ -182,9 +182,9 @@ module _ (steps : StepsLaw) (read : ReadLaw) where
       fails 1 0 FailedOld (stopped (started_times 0)) refl
       (Fell, (refl, refl, record { answer = refl; left = refl; sends = refl; types = refl }))
       ▸ starts 1 0 refl refl
-      ▸ crashes 1 (fresh me (started_times 1)) refl
+      ▸ crashes 1 (begun me (started_times 1)) refl
       ▸ starts 1 1 refl refl
-      ▸ campaigns 1 (fresh me (started_times 2)) refl (prepares me 2) (campaigns_so me 2)
+      ▸ campaigns 1 (begun me (started_times 2)) refl (prepares me 2) (campaigns_so me 2)
       ▸ hears 1 (asking me 2) refl 0 1 (Prepare ballot 0) (unsaved (asking me 2) (to_one 1 (Promise ballot 0 65536 []) ∷ []))
       (number_alone 1 0 _ refl) refl
       ▸ hears 1 (asking me 2) refl 1 1 (Promise ballot 0 65536 []) (quiet leading_alone) (number_alone 2 1 _ refl) refl
@@ -210,9 +210,9 @@ shows i = kept_event (Start i) ∷ kept_event (Run i 10) ∷ kept_event (Release
 abbrev pub both_show : StepsLaw → Ran (new_world letter_program three_nodes) (shows 1 ++ shows 2)
 both_show steps =
     starts 1 0 refl refl
-    ▸ runs 1 (begun node_1) (writes_letter _) steps refl
-    ▸ releases 1 (begun node_1) (writes_letter _) refl
+    ▸ runs 1 (just_started node_1) (writes_letter _) steps refl
+    ▸ releases 1 (just_started node_1) (writes_letter _) refl
     ▸ starts 2 0 refl refl
-    ▸ runs 2 (begun node_2) (writes_letter _) steps refl
-    ▸ releases 2 (begun node_2) (writes_letter _) refl
+    ▸ runs 2 (just_started node_2) (writes_letter _) steps refl
+    ▸ releases 2 (just_started node_2) (writes_letter _) refl
     ▸ stop

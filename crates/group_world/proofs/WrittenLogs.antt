@@ -11,7 +11,7 @@ use Rattle.paxos_msg.specs.Batches.{Body, Msg, Record}
 use Rattle.paxos_msg.specs.Bodies.{IsBody}
 use Rattle.paxos_msg.specs.Fits.{IsGroup, IsNode}
 use Rattle.group_node.specs.Deeds.{Deed}
-use Rattle.group_protocol.specs.Known.{Known, Response, on_start}
+use Rattle.group_protocol.specs.Known.{Known, Response, on_start, begun}
 use Rattle.group_node.specs.Output.{Progress, no_progress}
 use Rattle.group_protocol.specs.Packets.{Datagram, Packet, datagram_of, to_all}
 use Rattle.group_protocol.specs.Protocol.{on_message}
@@ -35,7 +35,6 @@ use Rattle.group_world.proofs.WorldAsGroup.{ReadLaw, packet_read, stopped}
 use Rattle.paxos_msg.specs.declared.message.Body.TheVariants.{Ask, Prepare}
 use Rattle.paxos_acceptor.specs.declared.me.Me.{Me}
 use Rattle.paxos_proposer.specs.Proposer.{new_proposer}
-use Rattle.paxos_learner.specs.Learner.{new_learner}
 use Rattle.group_protocol.proofs.Elements.{entries_none}
 use Rattle.group_node.specs.Deeds as deed
 use Rattle.group_node.specs.declared.player.Ran.TheVariants as more
@@ -48,26 +47,13 @@ use Rattle.paxos_msg.specs.declared.record.Change.TheVariants as change
 abbrev pub up : Known → Progress → List ℕ → Member
 up n progress console = record { kept = n.kept; console = console; node = Some (record { known = n; progress = progress }) }
 
--- a node after its start, with this record, and nothing that was heard
-abbrev pub fresh : Me → Record → Known
-fresh me kept = record {
-  me = me;
-  kept = kept;
-  learner = new_learner me.group.size;
-  proposer = None;
-  remembered = None;
-  offered = [];
-  waiting = [];
-  first = 1;
-}
-
 -- a node that has promised a ballot, and one that has begun its own
 abbrev pub promised : ℕ → ℕ → Record
 promised starts i = record (started_times starts) { promised = Some (first_ballot i) }
 
 abbrev pub asking : Me → ℕ → Known
 asking me starts =
-    record (fresh me (promised starts me.node)) { proposer = Some (new_proposer (first_ballot me.node) 0 me.group.size) }
+    record (begun me (promised starts me.node)) { proposer = Some (new_proposer (first_ballot me.node) 0 me.group.size) }
 
 -- ---- the calls of a node that has heard nothing
 
@@ -76,10 +62,10 @@ abbrev pub unsaved : Known → List Packet → Response
 unsaved n packets = record { node = n; saves = None; sends = packets }
 
 -- it ticks, hears another ask, and campaigns
-pub ticks_so : (me : Me) (kept : Record) → on_tick (fresh me kept) ≡ unsaved (fresh me kept) (to_all (Ask 0) ∷ [])
+pub ticks_so : (me : Me) (kept : Record) → on_tick (begun me kept) ≡ unsaved (begun me kept) (to_all (Ask 0) ∷ [])
 ticks_so me kept = rw entries_none refl
 
-pub tells_so : (me : Me) (kept : Record) (other : ℕ) → on_message (fresh me kept) other (Ask 0) ≡ unsaved (fresh me kept) []
+pub tells_so : (me : Me) (kept : Record) (other : ℕ) → on_message (begun me kept) other (Ask 0) ≡ unsaved (begun me kept) []
 tells_so me kept other = rw entries_none refl
 
 abbrev pub prepares : Me → ℕ → Response
@@ -89,7 +75,7 @@ prepares me starts = record {
   sends = to_all (Prepare (first_ballot me.node) 0) ∷ [];
 }
 
-pub campaigns_so : (me : Me) (starts : ℕ) → call_of_campaign (fresh me (started_times starts)) ≡ Makes (prepares me starts) []
+pub campaigns_so : (me : Me) (starts : ℕ) → call_of_campaign (begun me (started_times starts)) ≡ Makes (prepares me starts) []
 campaigns_so me starts = rw entries_none refl
 
 -- ---- an entry and its event, one after the other
@@ -153,7 +139,7 @@ module _ {w : World} (i : ℕ) where
   pub starts : (n : ℕ) → member_at w.members i ≡ Some (stopped (started_times n))
       → call_of_start (me_of w i) (started_times n) ≡ Makes (on_start (me_of w i) (started_times n)) []
       → Enters w (start_after (me_of w i) n) (kept_event (act.Start i))
-      (up (fresh (me_of w i) (started_times (n + 1))) (no_progress w.program) [])
+      (up (begun (me_of w i) (started_times (n + 1))) (no_progress w.program) [])
   starts n there spare =
       grind arith
 

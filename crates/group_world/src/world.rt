@@ -77,14 +77,16 @@ impl<'a> World<'a> {
         }
     }
 
-    /// Performs `event`: each but a crash is that call of its node. Its save, if it makes one, goes
-    /// as `event` says. Fails with `NoNode` if there is no such node, else with `NoMessage` if no
-    /// message of that number was sent, else with `NodeDown` if the node is down, or at a start
-    /// `NodeUp` if it is up, else only with `Memory`. A refusal changes nothing.
+    /// Performs `event`. Each act but a crash calls the function of `Node` that has its name (a
+    /// delivery calls `on_message`, with the message that the datagram of that number spells). Its
+    /// save, if it makes one, goes as `event` says. `Done` says what came of it: if the node itself
+    /// refuses the call, that is `Ok` too (`Done::Refused`), and nothing has changed.
     ///
-    /// A delivery passes the node the message that the datagram of that number spells. After a save
-    /// that fails the node is down, nothing was sent, and the next start finds the old record or
-    /// the changed one. A crash leaves the record and the console.
+    /// Fails with `NoNode` if there is no such node, else with `NoMessage` if no message of that
+    /// number was sent, else with `NodeDown` if the node is down, or at a start `NodeUp` if it is
+    /// up, else only with `Memory`. Then nothing has changed. After a save that fails the node is
+    /// down, nothing was sent, and the next start finds the old record or the changed one. A crash
+    /// leaves the record and the console.
     #[tactic(none)]
     pub fn apply(&mut self, event: &Event) -> Result<Done, WorldFault>
         ensures applies { Applies self.old event.now result self.new }

@@ -1,7 +1,7 @@
 -- What the command `frozen` answers, reads and writes.
 use Rattle.std.specs.Prelude.{◌≡◌, ◌⊎◌, ℕ, List, Option, Some}
+use Rattle.base.specs.Calls.{Mut}
 use Rattle.machine_run.specs.Files.{HasReadAll}
-use Rattle.machine_run.specs.Streams.{Borrowed}
 use Rattle.machine_run.specs.declared.run.RunIo.TheVariants.{Memory, Read, Write}
 use Rattle.machine_run.specs.declared.refusal.MachineRefusal.TheVariants.{File, Run}
 use Rattle.machine_state.specs.declared.command.Stated.{Stated}
@@ -25,8 +25,8 @@ pub record WritesOriginalOf (bytes : List ℕ) (from to wrote_from wrote_to : Op
 -- failed or memory ran out, and nothing was written; the file was refused on the whole input, and
 -- nothing was written; or a write of the text failed.
 -- Forbids: a failed write where there is nothing to write.
-abbrev pub IsOriginalRefusal : {R W : Type 0} → (R → Option (List ℕ)) → List ℕ → ℕ → Borrowed R
-    → Borrowed W → FrozenRefusal → Type 0
+abbrev pub IsOriginalRefusal : {R W : Type 0} → (R → Option (List ℕ)) → List ℕ → ℕ → Mut R
+    → Mut W → FrozenRefusal → Type 0
 IsOriginalRefusal remaining bytes steps reader writer e =
     (IsBytesRefusal bytes e × (reader.exit.now ≡ reader.entry.now)
     × (writer.exit.now ≡ writer.entry.now))
@@ -45,8 +45,8 @@ WritesOriginal from to wrote_from wrote_to steps stated =
 
 -- Why the command was refused: the file can't be read or memory ran out, and nothing was read or
 -- written; or as above.
-abbrev pub IsCommandRefusal : {R W : Type 0} → (R → Option (List ℕ)) → ℕ → Borrowed R
-    → Borrowed W → FrozenRefusal → Type 0
+abbrev pub IsCommandRefusal : {R W : Type 0} → (R → Option (List ℕ)) → ℕ → Mut R
+    → Mut W → FrozenRefusal → Type 0
 IsCommandRefusal remaining steps reader writer e =
     (((e ≡ Machine File) ⊎ (e ≡ Machine (Run Memory))) × (reader.exit.now ≡ reader.entry.now)
     × (writer.exit.now ≡ writer.entry.now))

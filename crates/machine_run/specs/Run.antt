@@ -2,6 +2,7 @@
 use Rattle.std.specs.Prelude.{◌≡◌, ◌≢◌, ℕ, ◌+◌, ◌<◌, List, [], ◌∷◌, ◌++◌, length, Option, Some, None, Result, Ok, Err}
 use Rattle.std.specs.Option.{option_to_list}
 use Rattle.std.specs.Io.KnownBytes.{IsAtEnd}
+use Rattle.base.specs.Calls.{Mut}
 use Rattle.pcode_file.specs.Parts.{Parts}
 use Rattle.pcode_machine.specs.declared.turn.End.{End}
 use Rattle.pcode_machine.specs.declared.turn.End.TheVariants as ends
@@ -13,7 +14,7 @@ use Rattle.machine_run.specs.declared.run.Finish.{Finish}
 use Rattle.machine_run.specs.declared.run.Finish.TheVariants as finish
 use Rattle.machine_run.specs.declared.run.RunIo.{RunIo}
 use Rattle.machine_run.specs.declared.run.RunIo.TheVariants as io
-use Rattle.machine_run.specs.Streams.{Borrowed, Streams, HasMoved, HasNoFault, HasReadFault, HasWriteFault}
+use Rattle.machine_run.specs.Streams.{Streams, HasMoved, HasNoFault, HasReadFault, HasWriteFault}
 
 -- A run of n steps on an input, which exist and have taken all of it.
 pub record HasRunOn (p : Parts) (input : List ℕ) (n : ℕ) : Type 0 where
@@ -83,7 +84,7 @@ RunsFrom p from to steps (Err io.Read) = FailsToRead p from to steps
 RunsFrom p from to steps (Err io.Write) = FailsToWrite p from to steps
 
 -- What a run of at most `steps` steps does to a reader and a writer, by what is `known` of them.
-abbrev pub RunsProgram : {R W : Type 0} → (R → W → Streams) → Parts → Borrowed R → Borrowed W → ℕ
+abbrev pub RunsProgram : {R W : Type 0} → (R → W → Streams) → Parts → Mut R → Mut W → ℕ
     → Result Finish RunIo → Type 0
 RunsProgram known p reader writer steps result =
     RunsFrom p (known reader.entry.now writer.entry.now) (known reader.exit.now writer.exit.now)

@@ -1,13 +1,11 @@
 -- What is known of a reader and a writer, what moved, and which faults of theirs were counted.
 use Rattle.std.specs.Prelude.{◌≡◌, ℕ, ◌==◌, Bool, true, false, if◌then◌else◌, List, Option, Some, None, Result, Ok, Err}
-use Rattle.std.specs.Borrow.{MutBor}
 use Rattle.std.specs.Io.KnownBytes.{Appends, Consumes}
 use Rattle.std.specs.IoError.{error_kind}
 use Rattle.std.specs.declared.io.Error.{Error}
 use Rattle.std.specs.declared.io.ErrorKind.{ErrorKind}
 use Rattle.std.specs.declared.io.ErrorKind.TheVariants.{Interrupted}
 use Rattle.base.specs.Faults.{HasRisen}
-use denote.Triple.Both.{Both}
 use Rattle.machine_run.specs.declared.streams.ReadFault.{ReadFault}
 use Rattle.machine_run.specs.declared.streams.WriteFault.{WriteFault}
 
@@ -57,10 +55,6 @@ streams remaining read_faults contents write_faults reader writer = record {
   read_faults = read_faults reader;
   write_faults = write_faults writer;
 }
-
--- What a call borrows to change: its value before the call (`entry.now`) and after it (`exit.now`).
-abbrev pub Borrowed : Type 0 → Type 0
-Borrowed A = Both (MutBor A) (MutBor A)
 
 -- The bytes that were read, and those that were written.
 pub record HasMoved (from to : Streams) (took wrote : List ℕ) : Type 0 where

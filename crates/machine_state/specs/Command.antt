@@ -3,11 +3,11 @@ use Rattle.std.specs.Prelude.{◌≡◌, ◌⊎◌, ℕ, List, Option, Some, Non
 use Rattle.std.specs.declared.string.String.{String}
 use Rattle.std.specs.Option.{option_map}
 use Rattle.std.specs.Io.KnownBytes.{Appends}
+use Rattle.base.specs.Calls.{Mut}
 use Rattle.pcode_file.specs.Parts.{Parts}
 use Rattle.pcode_machine.specs.declared.turn.End.{End}
 use Rattle.pcode_machine.specs.Configuration.{Configuration}
 use Rattle.machine_run.specs.Files.{HasReadAll, IsFileRefusal, IsLoadedProgram}
-use Rattle.machine_run.specs.Streams.{Borrowed}
 use Rattle.machine_run.specs.declared.run.RunIo.{RunIo}
 use Rattle.machine_run.specs.declared.run.RunIo.TheVariants.{Memory, Read, Write}
 use Rattle.machine_run.specs.declared.refusal.MachineRefusal.{MachineRefusal}
@@ -47,7 +47,7 @@ pub record WritesStateOf (program : Parts) (from to wrote_from wrote_to : Option
 
 -- Why such a call was refused: reading failed or memory ran out, and nothing was written; or a
 -- write failed.
-abbrev pub IsTextRefusal : {W : Type 0} → Borrowed W → RunIo → Type 0
+abbrev pub IsTextRefusal : {W : Type 0} → Mut W → RunIo → Type 0
 IsTextRefusal writer e =
     (((e ≡ Read) ⊎ (e ≡ Memory)) × (writer.exit.now ≡ writer.entry.now)) ⊎ (e ≡ Write)
 
@@ -59,7 +59,7 @@ WritesState from to wrote_from wrote_to steps stated =
     × WritesStateOf program from to wrote_from wrote_to steps stated
 
 -- Why the command was refused: the file was, and nothing was read or written; or as above.
-abbrev pub IsStateRefusal : {R W : Type 0} → Borrowed R → Borrowed W → MachineRefusal → Type 0
+abbrev pub IsStateRefusal : {R W : Type 0} → Mut R → Mut W → MachineRefusal → Type 0
 IsStateRefusal reader writer e =
     (IsFileRefusal e × (reader.exit.now ≡ reader.entry.now)
     × (writer.exit.now ≡ writer.entry.now))

@@ -41,7 +41,7 @@ IsStartRefusal e = (e ≡ group.Node fault.Memory) ⊎ (e ≡ group.Node Store)
 abbrev pub IsRunRefusal : GroupFault → Type 0
 IsRunRefusal e = IsWrittenCycleRefusal e ⊎ IsCampaignRefusal e ⊎ IsStartRefusal e
 
--- The refusal for a socket that is missing.
+-- The refusal for a socket that the system did not give.
 abbrev pub IsSocketRefusal : GroupFault → Type 0
 IsSocketRefusal e = e ≡ group.Socket
 

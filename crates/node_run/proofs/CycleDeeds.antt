@@ -17,7 +17,7 @@ use Rattle.node_run.specs.declared.answering.Answered.TheVariants.{Bytes, Campai
 use Rattle.node_run.specs.declared.cycles.RunPlan.{RunPlan}
 use Rattle.node_run.specs.declared.retries.Retried.{Retried}
 use Rattle.node_run.specs.Answering.{AnswersWhatCame, HasAnsweredKeyboard}
-use Rattle.node_run.specs.Cycles.{AnswersKeyboard, AreCycles, Begins, CampaignsAgain, DoesCycles, EndsAtKeyboard, EndsAtRest, EndsAtRetry, EndsAtTurn, EndsBeforeRelease, EndsInCycle, IsCycle, IsRun, ReleasesOutput, Rests, RunMoment, TakesTurn, TurnsOnce}
+use Rattle.node_run.specs.Cycles.{AnswersKeyboard, AreCycles, Begins, CampaignsAgain, DoesCycles, EndsAtKeyboard, EndsAtRest, EndsAtRetry, EndsAtTurn, EndsBeforeRelease, EndsInCycle, IsCycle, IsRun, ReleasesOutput, Rests, RunMoment, TakesTurn, IsCycleUpToRelease}
 use Rattle.node_run.specs.Course.{Surroundings, HasEnded, MadeTurnsOrEnded, HasMadeTurns, around, planned}
 use Rattle.node_run.specs.Output.{AppendsOutput, NoneWaits}
 use Rattle.node_run.specs.Releases.{WritesAll}
@@ -65,7 +65,7 @@ module _ {S : Type 0} {kind : StoreKind S} (laws : GoOn kind) where
       record { gift = []; prompts = []; given = rw h.alone (gift_none _); acts = h.acts; prompted = rw h.alone prompted_none }
 
   -- a cycle, and many
-  once_goes : {a b : RunMoment S} → TurnsOnce kind a b → HasMadeTurns [] a.node b.node a.around b.around 1
+  once_goes : {a b : RunMoment S} → IsCycleUpToRelease kind a b → HasMadeTurns [] a.node b.node a.around b.around 1
   once_goes h =
       gone_then laws (gone_then laws (rest_goes h.rests) (retry_goes h.retried h.campaigns))
       (gone_then laws (answer_goes h.answer h.answers) (turn_goes h.turns))
@@ -142,7 +142,7 @@ not_written : {e : GroupFault} → IsCycleRefusal e → ¬ IsErrOf {T = Unit {0}
 not_written is = grind arith
 
 -- nothing is written before the release
-unwritten_once : {S : Type 0} {kind : StoreKind S} {a b : RunMoment S} → TurnsOnce kind a b → b.written ≡ a.written
+unwritten_once : {S : Type 0} {kind : StoreKind S} {a b : RunMoment S} → IsCycleUpToRelease kind a b → b.written ≡ a.written
 unwritten_once h = h.turns.unwritten ∙ h.answers.unwritten ∙ h.campaigns.unwritten ∙ h.rests.unwritten
 
 unwritten_before : {S : Type 0} {kind : StoreKind S} (a b : RunMoment S) {e : GroupFault} → EndsBeforeRelease kind a b e

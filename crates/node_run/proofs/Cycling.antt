@@ -16,7 +16,7 @@ use Rattle.group_wire.specs.Doings.{HasActed}
 use Rattle.group_wire.specs.Turns.{HasHeard, HasTurned, SameReleased}
 use Rattle.node_run.specs.declared.answering.Answered.{Answered}
 use Rattle.node_run.specs.Answering.{AnswersWhatCame, HasAnsweredKeyboard}
-use Rattle.node_run.specs.Cycles.{EndsBeforeRelease, HearsTimes, HearsOnce, HearsAtRest, Rests, TurnsOnce, run_moment}
+use Rattle.node_run.specs.Cycles.{EndsBeforeRelease, HearsTimes, HearsOnce, HearsAtRest, Rests, IsCycleUpToRelease, run_moment}
 use Rattle.node_run.specs.declared.retries.Retried.{Retried}
 use Rattle.node_run.specs.Course.{Surroundings, FailsAt, around}
 use Rattle.node_run.specs.Retries.{HasRetried}
@@ -142,7 +142,7 @@ module _ {S : Type 0} (kind : StoreKind S) (written : Option (List ℕ)) where
             → HasTurned kind (Some (front old.protocol.known)) typed new via.traffic to (Ok turned)
             → HasActed typed new via.traffic to (Run 1000 ∷ []) → IsReplay (input new.protocol.known) new.progress
             → SameReleased old new
-            → TurnsOnce kind (run_moment old (around t keys retries) written)
+            → IsCycleUpToRelease kind (run_moment old (around t keys retries) written)
             (run_moment new (around to via.keyboard via.retries) written)
         turned_once {turned = turned} turn acted replay stays = record {
           rested = run_moment mid (around u seen retries) written;

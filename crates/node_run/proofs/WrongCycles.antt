@@ -14,7 +14,7 @@ use Rattle.node_io.specs.Prompts.{GivesWhatCame, KeyboardState, Remaining, no_ke
 use Rattle.node_run.specs.declared.answering.Answered.{Answered}
 use Rattle.node_run.specs.Answering.{left_once_answered, room_of}
 use Rattle.node_run.specs.Cycles.{AnswersKeyboard, ReleasesOutput, RunMoment, TakesTurn}
-use Rattle.node_run.specs.Wrong.{closed_with}
+use Rattle.node_run.specs.ClosedKeyboards.{closed_with}
 use Rattle.node_run.proofs.Course.{looked, with_none}
 
 -- nothing comes to a closed keyboard that is looked at

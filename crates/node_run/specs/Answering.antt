@@ -5,7 +5,7 @@ use Rattle.group_protocol.specs.declared.fault.NodeFault.TheVariants.{SerialSpen
 use Rattle.group_protocol.specs.declared.limits.TheConstants.{MOST_WAITING}
 use Rattle.group_node.specs.Deeds.{Campaign, Press}
 use Rattle.group_protocol.specs.Known.{Known, front}
-use Rattle.group_protocol.specs.ProposerRows.{is_leading}
+use Rattle.group_protocol.specs.ProposerResponses.{is_leading}
 use Rattle.group_node.specs.States.{NodeState}
 use Rattle.group_wire.specs.Campaigns.{HasCampaigned}
 use Rattle.group_wire.specs.Doings.{HasActed}
@@ -20,10 +20,11 @@ use Rattle.node_io.specs.Prompts.{GivesWhatCame, HasGiven, KeyboardState, Remain
 use Rattle.node_io.specs.Refusals.{IsCycleRefusal}
 
 -- A node that leads without a gap: each vote of its record is at a place below its known front.
-abbrev pub LeadsWithoutGap : Known → Type 0
-LeadsWithoutGap n = (is_leading n.proposer ≡ true) × All (λ v. v.place < front n) n.kept.votes
+abbrev pub LeadsAboveItsVotes : Known → Type 0
+LeadsAboveItsVotes n = (is_leading n.proposer ≡ true) × All (λ v. v.place < front n) n.kept.votes
 
 -- Typing of the bytes that a keyboard gave. If the serials are spent, the last of them are lost.
+-- Nothing passes over the wire, whatever it is (`passed`).
 -- Forbids: a byte that is typed twice, or that the keyboard did not give.
 abbrev pub HasTypedGiven : {S : Type 0} → NodeState S → NodeState S → KeyboardState → KeyboardState
     → Result (Unit {0}) GroupFault → Type 0
@@ -55,21 +56,21 @@ room_of n = MOST_WAITING - length n.protocol.known.waiting
 -- ignores it.
 -- Only a save that fails ends the node.
 -- Allows: a campaign that does not begin.
--- Forbids: a node that ends since no ballot or no place is left; a leader with a gap that ignores
+-- Forbids: a node that ends because no ballot or no place is left; a leader with a gap that ignores
 -- the request.
 abbrev pub HasCampaignedAsAsked : {S : Type 0} → StoreKind S → NodeState S → NodeState S
     → Option Traffic → Option Traffic → Result Answered GroupFault → Type 0
 HasCampaignedAsAsked kind old new from to (Ok Bytes) = ⊥
 HasCampaignedAsAsked kind old new from to (Ok Ignored) =
-    LeadsWithoutGap old.protocol.known × HasActed old new from to []
+    LeadsAboveItsVotes old.protocol.known × HasActed old new from to []
 HasCampaignedAsAsked kind old new from to (Ok Campaigned) =
-    (¬ LeadsWithoutGap old.protocol.known) × HasActed old new from to (Campaign ∷ [])
+    (¬ LeadsAboveItsVotes old.protocol.known) × HasActed old new from to (Campaign ∷ [])
 HasCampaignedAsAsked kind old new from to (Ok (CampaignRefused f)) =
-    (¬ LeadsWithoutGap old.protocol.known)
+    (¬ LeadsAboveItsVotes old.protocol.known)
     × HasCampaigned kind old new from to (Err f) × (f ≢ Stopped) × (f ≢ Store)
     × HasActed old new from to []
 HasCampaignedAsAsked kind old new from to (Err e) =
-    (¬ LeadsWithoutGap old.protocol.known) × FailsAt kind old new from to (Campaign ∷ []) e
+    (¬ LeadsAboveItsVotes old.protocol.known) × FailsAt kind old new from to (Campaign ∷ []) e
 
 -- What a node did with what its keyboard had once it was looked at: it typed these bytes; or it
 -- campaigned, could not, or leads already, as the answer says.

@@ -4,7 +4,7 @@ use Rattle.paxos_acceptor.specs.Stores.{StoreKind}
 use Rattle.group_protocol.specs.declared.fault.NodeFault.TheVariants.{PlacesSpent, RoundsSpent, SerialSpent, Store}
 use Rattle.group_node.specs.Deeds.{Campaign, Deed}
 use Rattle.group_protocol.specs.Known.{Known, front, next_serial}
-use Rattle.group_protocol.specs.ProposerRows.{last_round}
+use Rattle.group_protocol.specs.ProposerResponses.{last_round}
 use Rattle.group_node.specs.States.{NodeState}
 use Rattle.paxos_msg.specs.declared.limits.TheConstants.{LAST_ROUND, LAST_SERIAL, PLACES}
 use Rattle.group_wire.specs.Doings.{Fails, HasActed}
@@ -80,21 +80,21 @@ MadeTurnsOrEnded kind first old new from to turns (Err e) =
     ((done : ℕ) × (done ≤ turns) × HasEnded kind first old new from to done e)
     ⊎ ((e ≢ group.Node Store) × IsCampaignRefusal e × HasEnded kind [] old new from to 0 e)
 
--- A call that is refused only since a save of the node fails now: then these are the prompts.
+-- A call that is refused only because a save of the node fails now: then these are the prompts.
 pub record FailsAt {S : Type 0} (kind : StoreKind S) (old new : NodeState S)
     (from to : Option Traffic) (failing : List Deed) (e : GroupFault) : Type 0 where
   pub store : e ≡ group.Node Store
   pub fails : Fails kind old new from to failing
 
--- A rest, or a part of one: what the node heard. It is refused only since a save fails at a
+-- A rest, or a part of one: what the node heard. It is refused only because a save fails at a
 -- message.
 abbrev pub HasRested : {S T : Type 0} → StoreKind S → NodeState S → NodeState S → Option Traffic
     → Option Traffic → Result T GroupFault → Type 0
 HasRested kind old new from to (Ok x) = HasActed old new from to []
 HasRested kind old new from to (Err e) = FailsAt kind old new from to [] e
 
--- A campaign before the first turn, if the plan has one. It is refused since a save fails, or does
--- not begin.
+-- A campaign before the first turn, if the plan has one. It is refused because a save fails, or
+-- does not begin.
 -- Forbids: a campaign that was not asked for, and none where one was.
 abbrev pub CampaignsIf : {S : Type 0} → StoreKind S → Bool → NodeState S → NodeState S
     → Option Traffic → Option Traffic → Result (Unit {0}) GroupFault → Type 0

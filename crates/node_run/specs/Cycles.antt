@@ -117,7 +117,7 @@ front_at a = front a.node.protocol.known
 -- A cycle up to its release: a rest, a campaign once more if one is due, the keyboard, and a turn,
 -- which ticks unless a place was learned since the cycle began, and the node has caught up. What
 -- was released before stays as it is.
-pub record TurnsOnce {S : Type 0} (kind : StoreKind S) (a b : RunMoment S) : Type 0 where
+pub record IsCycleUpToRelease {S : Type 0} (kind : StoreKind S) (a b : RunMoment S) : Type 0 where
   pub rested : RunMoment S
   pub tried : RunMoment S
   pub answered : RunMoment S
@@ -133,7 +133,7 @@ pub record TurnsOnce {S : Type 0} (kind : StoreKind S) (a b : RunMoment S) : Typ
 -- A cycle: then all output that waits is released, and written from number `seen` on.
 pub record IsCycle {S : Type 0} (kind : StoreKind S) (seen : ℕ) (a b : RunMoment S) : Type 0 where
   pub mid : RunMoment S
-  pub turns : TurnsOnce kind a mid
+  pub turns : IsCycleUpToRelease kind a mid
   pub releases : ReleasesOutput seen mid b (Ok tt)
 
 -- So many cycles, one after the other.
@@ -205,15 +205,15 @@ EndsBeforeRelease kind a b e =
 -- A cycle up to its release, by its answer.
 abbrev pub TurnsOrEnds : {S T : Type 0} → StoreKind S → RunMoment S → RunMoment S
     → Result T GroupFault → Type 0
-TurnsOrEnds kind a b (Ok x) = TurnsOnce kind a b
+TurnsOrEnds kind a b (Ok x) = IsCycleUpToRelease kind a b
 TurnsOrEnds kind a b (Err e) = EndsBeforeRelease kind a b e
 
--- A cycle that is refused: so, or since a write fails.
+-- A cycle that is refused: so, or because a write fails.
 abbrev pub EndsInCycle : {S : Type 0} → StoreKind S → ℕ → RunMoment S → RunMoment S → GroupFault
     → Type 0
 EndsInCycle {S} kind seen a b e =
     EndsBeforeRelease kind a b e
-    ⊎ ((mid : RunMoment S) × TurnsOnce kind a mid × ReleasesOutput seen mid b (Err e))
+    ⊎ ((mid : RunMoment S) × IsCycleUpToRelease kind a mid × ReleasesOutput seen mid b (Err e))
 
 -- A cycle by its answer.
 abbrev pub DoesCycle : {S T : Type 0} → StoreKind S → ℕ → RunMoment S → RunMoment S

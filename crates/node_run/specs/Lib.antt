@@ -1,3 +1,4 @@
+pub mod Keeping
 pub mod Output
 pub mod Course
 pub mod Answering
@@ -6,4 +7,4 @@ pub mod Prompted
 pub mod Releases
 pub mod Runs
 pub mod Cycles
-pub mod Wrong
+pub mod ClosedKeyboards

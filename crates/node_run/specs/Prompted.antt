@@ -1,4 +1,5 @@
--- What a node is prompted to do in its turns, by what its keyboard gave.
+-- What a node is prompted to do in its turns. Its prompts are the deeds that come from outside: a
+-- typed byte and a campaign, which its keyboard gives, and a run of the machine, one in each turn.
 use Rattle.std.specs.Prelude.{◌≡◌, ◌≤◌, ◌+◌, ◌*◌, ℕ, Bool, true, false, List, [], ◌++◌, filter, length}
 use Rattle.group_node.specs.Deeds.{Deed, Run}
 use Rattle.node_run.specs.declared.limits.TheConstants.{MOST_RETRIES}
@@ -19,7 +20,8 @@ turns_in prompts = length (filter is_run prompts)
 -- its ballot is refused. `had` is how often it might campaign again before, and `left` how often
 -- it may now.
 -- Allows: a campaign that was asked for, and could not begin, or that a leader has ignored.
--- Forbids: a byte that is typed twice; a campaign that nobody asked for; a fifth one for a request.
+-- Forbids: a byte that is typed twice; a campaign that nobody asked for; more than four campaigns
+-- for each request, all together.
 pub record IsPrompted (gift : List Deed) (turns had left : ℕ) (spent : Type 0)
     (prompts : List Deed) : Type 0 where
   pub lost : List ℕ

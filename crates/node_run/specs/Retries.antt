@@ -5,7 +5,7 @@ use Rattle.paxos_msg.specs.Tests.{ballot_lt}
 use Rattle.paxos_acceptor.specs.Stores.{StoreKind}
 use Rattle.group_protocol.specs.declared.fault.NodeFault.TheVariants.{Stopped, Store}
 use Rattle.group_protocol.specs.Known.{Known}
-use Rattle.group_protocol.specs.ProposerRows.{is_leading, own_ballot}
+use Rattle.group_protocol.specs.ProposerResponses.{is_leading, own_ballot}
 use Rattle.group_node.specs.Deeds.{Campaign}
 use Rattle.group_node.specs.States.{NodeState}
 use Rattle.group_wire.specs.Campaigns.{HasCampaigned}
@@ -15,7 +15,7 @@ use Rattle.node_run.specs.declared.retries.Retried.{Retried}
 use Rattle.node_run.specs.declared.retries.Retried.TheVariants.{NotDue, Campaigned, CampaignRefused}
 use Rattle.node_run.specs.Course.{Surroundings, FailsAt}
 
--- The node has no ballot, since it was refused: a Refused has reported a greater one than the node
+-- The node has no ballot because it was refused: a Refused has reported a greater one than the node
 -- has promised.
 -- Forbids: a node that has promised the ballot of another one meanwhile.
 abbrev pub IsBallotRefused : Known → Type 0

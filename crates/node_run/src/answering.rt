@@ -1,15 +1,15 @@
 //! What a node does with what its keyboard gives before a turn.
-ghost use Rattle.std.specs.Prelude.{◌≡◌, ◌<◌, ◌↔◌, false, IfOk, IsTrue, OnErr, OnOk};
-ghost use Rattle.group_wire.specs.Turns.{SameReleased};
+ghost use Rattle.std.specs.Prelude.{◌≡◌, ◌<◌, ◌↔◌, IfOk, IsTrue, OnErr, OnOk};
 ghost use Rattle.node_run.specs.Course.{around_of};
-ghost use Rattle.node_run.specs.Answering.{AnswersWhatCame, HasAnsweredKeyboard, HasCampaignedAsAsked, HasTypedGiven, LeadsWithoutGap, left_once_given, retries_after, room_of};
+ghost use Rattle.node_run.specs.Answering.{AnswersWhatCame, HasAnsweredKeyboard, HasCampaignedAsAsked, HasTypedGiven, LeadsAboveItsVotes, left_once_given, retries_after, room_of};
+ghost use Rattle.node_run.specs.Keeping.{KeepsOutput, Works};
 
 use crate::endpoints::Endpoints;
 use crate::limits::MOST_RETRIES;
 use group_node::{Node, NodeFault};
 use group_protocol::limits::MOST_WAITING;
 use group_wire::laws::deeds_go_on;
-use group_wire::{Host, Told, Wire};
+use group_wire::{Host, TraceEvent, Wire};
 use node_io::{GroupFault, Keyboard};
 use paxos_acceptor::Store;
 
@@ -26,12 +26,12 @@ pub enum Answered {
     CampaignRefused(NodeFault),
 }
 
-/// Tells the wire of typed bytes.
-fn tell_typed<T: Wire>(wire: &mut T, bytes: &[u8])
+/// Traces typed bytes.
+fn trace_typed<T: Wire>(wire: &mut T, bytes: &[u8])
     ensures passed { T.traffic wire.new ≡ T.traffic wire.old }
 {
     for byte in bytes {
-        wire.tell(&Told::Pressed(*byte));
+        wire.trace(&TraceEvent::Pressed(*byte));
     }
 }
 
@@ -40,16 +40,15 @@ fn type_given<T: Wire, K: Keyboard, S: Store>(
     host: &mut Host<'_, S>,
     endpoints: &mut Endpoints<T, K>,
 ) -> Result<(), GroupFault>
-    requires works { host.old.protocol.is_stopped ≡ false }
-    ensures works { host.new.protocol.is_stopped ≡ false }
+    requires works { Works host.old }
+    ensures works { Works host.new }
     ensures typed { HasTypedGiven host.old host.new (K.keys endpoints.old.keyboard)
         (K.keys endpoints.new.keyboard) result }
     ensures takes { (K.keys endpoints.new.keyboard).left
         ≡ left_once_given (room_of host.old) (K.keys endpoints.old.keyboard).left }
     ensures passed { T.traffic endpoints.new.wire ≡ T.traffic endpoints.old.wire }
-    ensures again { endpoints.new.retries ≡ endpoints.old.retries }
-    ensures stays { SameReleased host.old host.new }
-    ensures progress { host.new.progress ≡ host.old.progress }
+    ensures retries { endpoints.new.retries ≡ endpoints.old.retries }
+    ensures output { KeepsOutput host.old host.new }
 {
     let mut buffer = [0u8; MOST_WAITING];
     let count = endpoints.keyboard.give(&mut buffer, host.node().waiting());
@@ -57,14 +56,14 @@ fn type_given<T: Wire, K: Keyboard, S: Store>(
     let mut bytes = given;
     let pressed = host.press(&mut bytes);
     let typed = count.saturating_sub(bytes.len());
-    tell_typed(&mut endpoints.wire, &given[..typed]);
+    trace_typed(&mut endpoints.wire, &given[..typed]);
     Ok(pressed?)
 }
 
 /// Returns true if the node leads without a gap: each vote of its record is at a place below its
 /// known front.
-fn leads_without_gap<S: Store>(node: &Node<'_, S>) -> bool
-    ensures { IsTrue result ↔ LeadsWithoutGap node.now.protocol.known }
+fn leads_above_its_votes<S: Store>(node: &Node<'_, S>) -> bool
+    ensures { IsTrue result ↔ LeadsAboveItsVotes node.now.protocol.known }
 {
     let front = node.known_front();
     let votes = node.record().votes.as_slice();
@@ -78,15 +77,14 @@ fn campaign_when_asked<T: Wire, S: Store>(
     host: &mut Host<'_, S>,
     wire: &mut T,
 ) -> Result<Answered, GroupFault>
-    requires works { host.old.protocol.is_stopped ≡ false }
-    ensures works { OnOk result (host.new.protocol.is_stopped ≡ false) }
+    requires works { Works host.old }
+    ensures works { OnOk result (Works host.new) }
     ensures campaigned { HasCampaignedAsAsked S.kind host.old host.new
         (T.traffic wire.old) (T.traffic wire.new) result }
-    ensures stays { SameReleased host.old host.new }
-    ensures progress { host.new.progress ≡ host.old.progress }
+    ensures output { KeepsOutput host.old host.new }
 {
     deeds_go_on::<S>();
-    if leads_without_gap(host.node()) {
+    if leads_above_its_votes(host.node()) {
         return Ok(Answered::Ignored);
     }
     match host.campaign(wire) {
@@ -102,16 +100,15 @@ fn answer_request<T: Wire, K: Keyboard, S: Store>(
     host: &mut Host<'_, S>,
     endpoints: &mut Endpoints<T, K>,
 ) -> Result<Answered, GroupFault>
-    requires works { host.old.protocol.is_stopped ≡ false }
-    ensures works { OnOk result (host.new.protocol.is_stopped ≡ false) }
+    requires works { Works host.old }
+    ensures works { OnOk result (Works host.new) }
     ensures campaigned { HasCampaignedAsAsked S.kind host.old host.new
         (T.traffic endpoints.old.wire) (T.traffic endpoints.new.wire) result }
     ensures untyped { endpoints.new.keyboard ≡ endpoints.old.keyboard }
-    ensures again { IfOk result (λ answer.
+    ensures retries { IfOk result (λ answer.
         endpoints.new.retries ≡ retries_after answer endpoints.old.retries) }
-    ensures err { OnErr result (endpoints.new.retries ≡ endpoints.old.retries) }
-    ensures stays { SameReleased host.old host.new }
-    ensures progress { host.new.progress ≡ host.old.progress }
+    ensures retries_stay { OnErr result (endpoints.new.retries ≡ endpoints.old.retries) }
+    ensures output { KeepsOutput host.old host.new }
 {
     let answered = campaign_when_asked(host, &mut endpoints.wire)?;
     endpoints.retries = match answered {
@@ -127,15 +124,14 @@ pub fn answer_keyboard<T: Wire, K: Keyboard, S: Store>(
     host: &mut Host<'_, S>,
     endpoints: &mut Endpoints<T, K>,
 ) -> Result<Answered, GroupFault>
-    requires works { host.old.protocol.is_stopped ≡ false }
-    ensures works { OnOk result (host.new.protocol.is_stopped ≡ false) }
+    requires works { Works host.old }
+    ensures works { OnOk result (Works host.new) }
     ensures answered { HasAnsweredKeyboard S.kind host.old host.new
         (around_of T.traffic K.keys endpoints.old)
         (around_of T.traffic K.keys endpoints.new) result }
     ensures takes { IfOk result (λ answer. AnswersWhatCame S.kind answer host.old host.new
         (around_of T.traffic K.keys endpoints.old) (around_of T.traffic K.keys endpoints.new)) }
-    ensures stays { SameReleased host.old host.new }
-    ensures progress { host.new.progress ≡ host.old.progress }
+    ensures output { KeepsOutput host.old host.new }
 {
     endpoints.keyboard.look();
     if endpoints.keyboard.take_request() {

@@ -1,10 +1,12 @@
-//! The cycles of one node: each is a rest, typing, a turn, and the release of all output.
-ghost use Rattle.std.specs.Prelude.{◌≡◌, ℕ, List, false, IfErr, IsErrOf, OnOk, Option};
+//! The cycles of one node: each is a rest, a campaign once more if one is due, what the keyboard
+//! asks for, a turn, and the release of all output.
+ghost use Rattle.std.specs.Prelude.{◌≡◌, ℕ, List, IfErr, IsErrOf, OnOk, Option};
 ghost use Rattle.paxos_acceptor.specs.Stores.{CountsIf};
 ghost use Rattle.group_wire.specs.Turns.{SameReleased};
 ghost use Rattle.node_run.specs.Cycles.{DoesCycle, DoesCycles, IsRun, TurnsOrEnds, run_moment};
 ghost use Rattle.node_run.specs.Course.{CampaignsIf, around_of};
 ghost use Rattle.node_run.specs.Runs.{IsEarlyEnd};
+ghost use Rattle.node_run.specs.Keeping.{KeepsOutput, Works};
 ghost use Rattle.node_io.specs.Refusals.{IsCampaignRefusal, IsCycleRefusal, IsWrittenCycleRefusal, write_failed};
 
 use crate::answering::{Answered, answer_keyboard};
@@ -22,7 +24,7 @@ use paxos_acceptor::Store;
 use std::io::Write;
 use std::time::Clock;
 
-/// How a node is to run, over whatever store, wire and keyboard.
+/// How a node is to run, over whatever store, wire and keyboard. Each turn is one of a cycle.
 #[derive(Clone, Copy, Debug, PartialEq, Eq)]
 pub struct RunPlan {
     /// How many turns it takes.
@@ -77,16 +79,17 @@ fn note_retried<H: Clock, S: Store, E: Write>(
     log.look(host.node().protocol());
 }
 
-/// Rests, unless the node is busy; campaigns again, if that is due; types bytes at it; and takes
-/// its turn. Returns true if the node is busy then. What was released before stays as it is.
+/// Rests, unless the node is busy; campaigns again, if that is due; campaigns or types bytes, as
+/// the keyboard asks; and takes its turn. Returns true if the node is busy then. What was released
+/// before stays as it is.
 fn rest_and_turn<H: Clock, T: CountedWire, K: Keyboard, S: Store, E: Write>(
     host: &mut Host<'_, S>,
     endpoints: &mut Endpoints<T, K>,
     is_busy: bool,
     log: &mut Log<'_, H, E>,
 ) -> Result<bool, GroupFault>
-    requires works { host.old.protocol.is_stopped ≡ false }
-    ensures works { OnOk result (host.new.protocol.is_stopped ≡ false) }
+    requires works { Works host.old }
+    ensures works { OnOk result (Works host.new) }
     ensures stays { SameReleased host.old host.new }
     ensures turns { (written : Option (List ℕ)) → TurnsOrEnds S.kind
         (run_moment host.old (around_of T.traffic K.keys endpoints.old) written)
@@ -109,8 +112,8 @@ fn rest_and_turn<H: Clock, T: CountedWire, K: Keyboard, S: Store, E: Write>(
     Ok(is_busy_after(ran))
 }
 
-/// Makes a cycle: a rest, typing, a turn, and then the release of all output. The bytes from number
-/// `seen` on are written. Returns true if the node is busy.
+/// Makes a cycle: what `rest_and_turn` does, and then the release of all output. The bytes from
+/// number `seen` on are written. Returns true if the node is busy.
 fn cycle<H: Clock, T: CountedWire, K: Keyboard, S: Store, W: ByteWriter, E: Write>(
     host: &mut Host<'_, S>,
     seen: u64,
@@ -119,8 +122,8 @@ fn cycle<H: Clock, T: CountedWire, K: Keyboard, S: Store, W: ByteWriter, E: Writ
     writer: &mut W,
     log: &mut Log<'_, H, E>,
 ) -> Result<bool, GroupFault>
-    requires works { host.old.protocol.is_stopped ≡ false }
-    ensures works { OnOk result (host.new.protocol.is_stopped ≡ false) }
+    requires works { Works host.old }
+    ensures works { OnOk result (Works host.new) }
     ensures cycle { DoesCycle S.kind seen
         (run_moment host.old (around_of T.traffic K.keys endpoints.old) (W.contents writer.old))
         (run_moment host.new (around_of T.traffic K.keys endpoints.new) (W.contents writer.new))
@@ -143,7 +146,7 @@ fn play<H: Clock, T: CountedWire, K: Keyboard, S: Store, W: ByteWriter, E: Write
     writer: &mut W,
     log: &mut Log<'_, H, E>,
 ) -> Result<(), GroupFault>
-    requires works { host.old.protocol.is_stopped ≡ false }
+    requires works { Works host.old }
     ensures cycles { DoesCycles S.kind plan.seen plan.turns
         (run_moment host.old (around_of T.traffic K.keys endpoints.old) (W.contents writer.old))
         (run_moment host.new (around_of T.traffic K.keys endpoints.new) (W.contents writer.new))
@@ -165,12 +168,11 @@ fn campaign_if<T: Wire, S: Store>(
     wire: &mut T,
     is_asked: bool,
 ) -> Result<(), GroupFault>
-    requires works { host.old.protocol.is_stopped ≡ false }
-    ensures works { OnOk result (host.new.protocol.is_stopped ≡ false) }
+    requires works { Works host.old }
+    ensures works { OnOk result (Works host.new) }
     ensures acts { CampaignsIf S.kind is_asked host.old host.new (T.traffic wire.old)
         (T.traffic wire.new) result }
-    ensures stays { SameReleased host.old host.new }
-    ensures progress { host.new.progress ≡ host.old.progress }
+    ensures output { KeepsOutput host.old host.new }
     ensures others { IfErr result IsCampaignRefusal }
 {
     deeds_go_on::<S>();
@@ -189,7 +191,7 @@ pub fn campaign_and_play<H: Clock, T: CountedWire, K: Keyboard, S: Store, W: Byt
     writer: &mut W,
     log: &mut Log<'_, H, E>,
 ) -> Result<(), GroupFault>
-    requires works { host.old.protocol.is_stopped ≡ false }
+    requires works { Works host.old }
     ensures run { IsRun S.kind plan
         (run_moment host.old (around_of T.traffic K.keys endpoints.old) (W.contents writer.old))
         (run_moment host.new (around_of T.traffic K.keys endpoints.new) (W.contents writer.new))

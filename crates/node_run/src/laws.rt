@@ -15,17 +15,17 @@ ghost use Rattle.node_run.specs.Course.{Surroundings};
 ghost use Rattle.node_run.specs.Runs.{RunsInCycles, RunsNode};
 ghost use Rattle.node_run.specs.Cycles.{AnswersKeyboard, ReleasesOutput, RunMoment, TakesTurn};
 ghost use Rattle.node_run.specs.Output.{AreFirst, released_from};
-ghost use Rattle.node_run.specs.Wrong.{closed_with};
+ghost use Rattle.node_run.specs.ClosedKeyboards.{closed_with};
 
 use group_node::Ran;
 use group_wire::laws::deeds_go_on;
 use paxos_acceptor::Store;
 use pcode_machine::laws::{output_only_grows, prefixes_are_ordered};
 
-/// A start with `--seen 0` writes the first bytes of its output. A later one that gets the
-/// console's length makes the console show the first bytes of one output: as many as it showed or
-/// as this start released, whichever is more. Premise: of the two learned inputs one continues the
-/// other, as with two starts in one group.
+/// A start with `--seen 0` writes the first bytes of its output. After a later start that gets the
+/// console's length the console shows the first bytes of one output: as many as the console showed
+/// before, or as that start released, whichever is more. Premise: of the two learned inputs one
+/// continues the other, as with two starts in one group.
 pub fn consoles_go_on()
     ensures first { (x : List ℕ) (q : Progress) → IsReplay x q
         → AreFirst q.program x q.released (released_from 0 x q) }
@@ -58,9 +58,9 @@ pub fn cycles_are_a_run<S: Store>()
     deeds_go_on::<S>();
 }
 
-/// What is no part of a cycle. A keyboard that has bytes, at a node with room for one, or a request
-/// is not passed over. A turn after which the machine has more to do has made steps. Output that
-/// waits is not left at the end of a cycle.
+/// What is no part of a cycle. A keyboard with a request is not passed over, nor one with bytes if
+/// the node has room for one. A turn after which the machine has more to do has made steps. Output
+/// that waits is not left at the end of a cycle.
 pub fn wrong_cycles<S: Store>()
     ensures bytes_left { (answer : Answered) (a b : RunMoment S) (byte : ℕ) (bytes : List ℕ)
         → length a.node.protocol.known.waiting < MOST_WAITING

@@ -7,7 +7,7 @@ ghost use Rattle.group_wire.specs.Traffic.{Traffic};
 ghost use Rattle.node_run.specs.Releases.{HasReleased};
 
 use group_wire::laws::deeds_go_on;
-use group_wire::{Host, Told, Wire};
+use group_wire::{Host, TraceEvent, Wire};
 use machine_run::{ByteWriter, RunIo, WriteFault};
 use node_io::GroupFault;
 use paxos_acceptor::Store;
@@ -33,7 +33,7 @@ fn write_unseen<W: ByteWriter>(
     writer.write_byte(byte)
 }
 
-/// Releases all output that waits, tells the wire of each byte, and writes those whose number is
+/// Releases all output that waits, traces each byte, and writes those whose number is
 /// not below `seen`, in order.
 /// Fails if a write fails; then the bytes before that one were written, and it and those before it
 /// were released.
@@ -52,7 +52,7 @@ pub fn release_all<T: Wire, S: Store, W: ByteWriter>(
 {
     deeds_go_on::<S>();
     while let Some((number, byte)) = host.release() {
-        wire.tell(&Told::Released(number, byte));
+        wire.trace(&TraceEvent::Released(number, byte));
         match write_unseen(writer, seen, number, byte) {
             Ok(()) => (),
             Err(WriteFault) => return Err(GroupFault::from(RunIo::Write)),

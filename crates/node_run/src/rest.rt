@@ -11,6 +11,7 @@ ghost use Rattle.node_io.specs.Prompts.{GivesWhatCame};
 ghost use Rattle.node_run.specs.Cycles.{HearsOnce, HearsAtRest};
 ghost use Rattle.node_run.specs.Course.{FailsAt, HasRested};
 ghost use Rattle.node_run.specs.Output.{SameProgram};
+ghost use Rattle.node_run.specs.Keeping.{KeepsOutput, Works};
 
 use crate::endpoints::Endpoints;
 use crate::limits::MOST_RESTING;
@@ -21,9 +22,9 @@ use node_io::{GroupFault, Keyboard, RestingWire, Waited};
 use paxos_acceptor::Store;
 use paxos_msg::limits::MOST_CHARACTERS;
 
-/// Returns true if the keyboard calls a node at which `waiting` keys wait from its rest: by a
-/// request, or by bytes if no key waits. While keys wait their batch is under way, and further
-/// bytes can wait for the next tick.
+/// Returns true if the keyboard ends the rest of a node at which `waiting` keys wait: it has a
+/// request, or bytes while no key waits. If keys wait, their batch is under way, and further bytes
+/// can wait for the next tick.
 fn is_calling<K: Keyboard>(keyboard: &K, waiting: usize) -> bool {
     keyboard.has_request() || (waiting == 0 && keyboard.has_bytes())
 }
@@ -46,10 +47,10 @@ fn wait<T: RestingWire, K: Keyboard>(endpoints: &mut Endpoints<T, K>, waiting: u
     }
 }
 
-/// Returns true if the rest of a node is over once a place has become known. While its typed keys
-/// are under way, and fewer wait than a place takes, it lasts as long as such a rest has to: else
-/// each place that is learned would open one for the few keys that came meanwhile, and have all be
-/// repeated that is under way. On a quick network that is no time.
+/// Returns true if the rest of a node is over once a place has become known. That is so if no key
+/// waits, or as many as a place takes. If fewer wait, the rest lasts as long as the wire says: a
+/// turn after each learned place would propose one more place for the few keys that came
+/// meanwhile, and repeat all that is under way. On a quick network such a rest is over at once.
 fn ends_rest<T: RestingWire>(wire: &mut T, waiting: usize) -> bool
     ensures passed { T.traffic wire.new ≡ T.traffic wire.old }
 {
@@ -64,8 +65,8 @@ fn rest_once<T: RestingWire, K: Keyboard, S: Store>(
     endpoints: &mut Endpoints<T, K>,
     front: u32,
 ) -> Result<bool, GroupFault>
-    requires works { host.old.protocol.is_stopped ≡ false }
-    ensures works { OnOk result (host.new.protocol.is_stopped ≡ false) }
+    requires works { Works host.old }
+    ensures works { OnOk result (Works host.new) }
     ensures rests { HasRested S.kind host.old host.new (T.traffic endpoints.old.wire)
         (T.traffic endpoints.new.wire) result }
     ensures hears { HearsOnce S.kind host.old host.new (T.traffic endpoints.old.wire)
@@ -73,8 +74,7 @@ fn rest_once<T: RestingWire, K: Keyboard, S: Store>(
     ensures looks { GivesWhatCame (K.keys endpoints.old.keyboard) []
         (K.keys endpoints.new.keyboard) }
     ensures retries { endpoints.new.retries ≡ endpoints.old.retries }
-    ensures stays { SameReleased host.old host.new }
-    ensures progress { host.new.progress ≡ host.old.progress }
+    ensures output { KeepsOutput host.old host.new }
 {
     match host.hear(&mut endpoints.wire) {
         Ok(Received::Nothing) => Ok(wait(endpoints, host.node().waiting())),
@@ -94,15 +94,14 @@ fn rest<T: RestingWire, K: Keyboard, S: Store>(
     host: &mut Host<'_, S>,
     endpoints: &mut Endpoints<T, K>,
 ) -> Result<(), GroupFault>
-    requires works { host.old.protocol.is_stopped ≡ false }
-    ensures works { OnOk result (host.new.protocol.is_stopped ≡ false) }
+    requires works { Works host.old }
+    ensures works { OnOk result (Works host.new) }
     ensures hears { HearsAtRest S.kind host.old host.new (T.traffic endpoints.old.wire)
         (T.traffic endpoints.new.wire) result }
     ensures looks { GivesWhatCame (K.keys endpoints.old.keyboard) []
         (K.keys endpoints.new.keyboard) }
     ensures retries { endpoints.new.retries ≡ endpoints.old.retries }
-    ensures stays { SameReleased host.old host.new }
-    ensures progress { host.new.progress ≡ host.old.progress }
+    ensures output { KeepsOutput host.old host.new }
 {
     deeds_go_on::<S>();
     let front = host.node().known_front();
@@ -123,8 +122,8 @@ pub fn rest_unless_busy<T: RestingWire, K: Keyboard, S: Store>(
     endpoints: &mut Endpoints<T, K>,
     is_busy: bool,
 ) -> Result<(), GroupFault>
-    requires works { host.old.protocol.is_stopped ≡ false }
-    ensures works { OnOk result (host.new.protocol.is_stopped ≡ false) }
+    requires works { Works host.old }
+    ensures works { OnOk result (Works host.new) }
     ensures busy { is_busy ≡ true → (result ≡ Ok tt) × (host.new ≡ host.old)
         × (endpoints.new ≡ endpoints.old) }
     ensures hears { HearsAtRest S.kind host.old host.new (T.traffic endpoints.old.wire)
@@ -132,8 +131,7 @@ pub fn rest_unless_busy<T: RestingWire, K: Keyboard, S: Store>(
     ensures looks { GivesWhatCame (K.keys endpoints.old.keyboard) []
         (K.keys endpoints.new.keyboard) }
     ensures retries { endpoints.new.retries ≡ endpoints.old.retries }
-    ensures stays { SameReleased host.old host.new }
-    ensures progress { host.new.progress ≡ host.old.progress }
+    ensures output { KeepsOutput host.old host.new }
 {
     deeds_go_on::<S>();
     if is_busy {
@@ -162,8 +160,8 @@ pub fn own_turn<T: Wire, S: Store>(
     wire: &mut T,
     begun: u32,
 ) -> Result<Ran, GroupFault>
-    requires works { host.old.protocol.is_stopped ≡ false }
-    ensures works { OnOk result (host.new.protocol.is_stopped ≡ false) }
+    requires works { Works host.old }
+    ensures works { OnOk result (Works host.new) }
     ensures turned { IfOk result (λ ran. (done : Turned)
         × HasTurned S.kind (Some begun) host.old host.new (T.traffic wire.old)
         (T.traffic wire.new) (Ok done) × (ran ≡ done.ran)) }

@@ -1,8 +1,8 @@
-//! What a node does if the ballot is refused under which it campaigned for a request.
-ghost use Rattle.std.specs.Prelude.{◌≡◌, ◌↔◌, false, IsTrue, OnOk};
-ghost use Rattle.group_wire.specs.Turns.{SameReleased};
+//! What a node does if the ballot of a campaign that it was asked for is refused.
+ghost use Rattle.std.specs.Prelude.{◌↔◌, false, IsTrue, OnOk};
 ghost use Rattle.node_run.specs.Course.{around_of};
 ghost use Rattle.node_run.specs.Retries.{HasRetried, IsBallotRefused};
+ghost use Rattle.node_run.specs.Keeping.{KeepsOutput, Works};
 
 use crate::endpoints::Endpoints;
 use group_node::{Node, NodeFault};
@@ -22,7 +22,7 @@ pub enum Retried {
     CampaignRefused(NodeFault),
 }
 
-/// Returns true if the node has no ballot, since it was refused: a Refused has reported a greater
+/// Returns true if the node has no ballot because it was refused: a Refused has reported a greater
 /// one than the node has promised.
 fn is_ballot_refused<S: Store>(node: &Node<'_, S>) -> bool
     ensures { IsTrue result ↔ IsBallotRefused node.now.protocol.known }
@@ -33,21 +33,20 @@ fn is_ballot_refused<S: Store>(node: &Node<'_, S>) -> bool
     }
 }
 
-/// Campaigns once more if the node was asked to, and its ballot was refused, above the ballot that
-/// refused it. It does so at most three times for a request, and no more once it leads or another
-/// node has a greater ballot from it. A campaign that does not begin ends that, and the node
-/// continues as it was.
+/// Campaigns once more, under a ballot above the one that refused it, if the node was asked to
+/// campaign and its ballot was refused. It does so at most three times for a request: no more once
+/// it leads, and not while it has promised a ballot that is not below the one that refused it. A
+/// campaign that does not begin ends that, and the node continues as it was.
 pub fn campaign_again<T: Wire, K: Keyboard, S: Store>(
     host: &mut Host<'_, S>,
     endpoints: &mut Endpoints<T, K>,
 ) -> Result<Retried, GroupFault>
-    requires works { host.old.protocol.is_stopped ≡ false }
-    ensures works { OnOk result (host.new.protocol.is_stopped ≡ false) }
+    requires works { Works host.old }
+    ensures works { OnOk result (Works host.new) }
     ensures retried { HasRetried S.kind host.old host.new
         (around_of T.traffic K.keys endpoints.old)
         (around_of T.traffic K.keys endpoints.new) result }
-    ensures stays { SameReleased host.old host.new }
-    ensures progress { host.new.progress ≡ host.old.progress }
+    ensures output { KeepsOutput host.old host.new }
 {
     deeds_go_on::<S>();
     if host.node().is_leading() {

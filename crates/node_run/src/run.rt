@@ -12,7 +12,7 @@ use crate::endpoints::Endpoints;
 use group_log::Log;
 use group_node::{Config, NodeFault, StartRefused};
 use group_wire::laws::deeds_go_on;
-use group_wire::{Host, Told, Wire};
+use group_wire::{Host, TraceEvent, Wire};
 use machine_run::ByteWriter;
 use node_io::{CountedWire, GroupFault, Keyboard};
 use paxos_acceptor::Store;
@@ -31,16 +31,16 @@ pub struct NodeEnd<S> {
     pub done: Result<(), GroupFault>,
 }
 
-/// Tells the wire how the run of its node ended: that a save failed, if one did, and the status of
+/// Traces how the run of a node ended: that a save failed, if one did, and the exit status of
 /// the process. Returns how it ended.
-fn tell_end<T: Wire>(wire: &mut T, done: Result<(), GroupFault>) -> Result<(), GroupFault>
+fn trace_end<T: Wire>(wire: &mut T, done: Result<(), GroupFault>) -> Result<(), GroupFault>
     ensures same { result ≡ done }
     ensures passed { T.traffic wire.new ≡ T.traffic wire.old }
 {
     if let Err(GroupFault::Node(NodeFault::Store)) = done {
-        wire.tell(&Told::Failed);
+        wire.trace(&TraceEvent::Failed);
     }
-    wire.tell(&Told::Ended(u8::from(done.is_err())));
+    wire.trace(&TraceEvent::Ended(u8::from(done.is_err())));
     done
 }
 
@@ -57,10 +57,10 @@ fn tell_end<T: Wire>(wire: &mut T, done: Result<(), GroupFault>) -> Result<(), G
 /// Else it ends at the first failed save or write, if the plan's campaign is refused, or where a
 /// byte is typed and the serials are spent.
 ///
-/// The store, which is one of the node of `config` or of none in particular, is given back as such.
-/// The record that an honest one loaded is one that a restart might have loaded before, and in the
-/// end a restart may load the record of the process alone, or, if its save failed, that or the
-/// changed one.
+/// `config` is seen as what it says of the node and its group. The store is one of that node, or of
+/// no node in particular, and is given back as such. The record that an honest one loaded is one
+/// that a restart might have loaded before. Afterwards a restart may load the record of the process
+/// and no other; after a save that failed, that record or the one that was to be saved.
 pub fn run_node<H: Clock, T: CountedWire, K: Keyboard, S: Store + Drop, W: ByteWriter, E: Write>(
     alloc: Global,
     program: &Program,
@@ -86,28 +86,28 @@ pub fn run_node<H: Clock, T: CountedWire, K: Keyboard, S: Store + Drop, W: ByteW
     let mut host = match Host::start(alloc, program, config, store) {
         Ok(host) => host,
         Err(StartRefused { fault, store }) => {
-            let done = tell_end(&mut endpoints.wire, Err(GroupFault::Node(fault)));
+            let done = trace_end(&mut endpoints.wire, Err(GroupFault::Node(fault)));
             return NodeEnd { store, done };
         }
     };
-    endpoints.wire.tell(&Told::Started);
+    endpoints.wire.trace(&TraceEvent::Started);
     log.note_started(host.node().protocol(), group);
     let played = campaign_and_play(&mut host, plan, endpoints, writer, log);
     // The machine is where a replay from the start is.
     host.unreleased();
     // It says what a restart may load of the store, and whose that is.
     host.node().record();
-    let done = tell_end(&mut endpoints.wire, played);
+    let done = trace_end(&mut endpoints.wire, played);
     let store = host.into_store();
     NodeEnd { store, done }
 }
 
 /// Runs one node over a disk, as `run_node` says. Whatever a restart finds on an honest disk has to
-/// be a record of the node, or no file, and so it is again in the end.
+/// be a record of the node, or no file. That is also so afterwards.
 ///
 /// On an honest disk the process is over a record that a restart might have found there before
-/// (`MayLoad`), and after it a restart finds the record of the process alone, or, if its save
-/// failed, that or the changed one.
+/// (`MayLoad`). Afterwards a restart finds the record of the process and no other; after a save
+/// that failed, that record or the one that was to be saved.
 pub fn run_over_disk<
     H: Clock,
     T: CountedWire,

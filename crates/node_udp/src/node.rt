@@ -145,7 +145,7 @@ fn node_noted<
 /// as `plan.run` says, as by `run_node`. It is a process of its group over a load of the store at
 /// the plan's path.
 ///
-/// What is typed is a front of what the reader had left, or comes as datagrams. `writer` gets each
+/// What is typed is a prefix of what the reader had left, or comes as datagrams. `writer` gets each
 /// byte that the node has released, from number `plan.run.seen` on, once and in order, but for one
 /// that a failed write lost, and nothing else.
 ///

@@ -42,8 +42,10 @@ pub fn open_keyboard<'a, H: Net + Clock + AllocGlobal, E: Write>(
     Ok(TypedDatagrams::new(rt, rt.alloc(), socket)?)
 }
 
-/// Opens the wire of the plan's node, on the socket of its address. Typed bytes end its waiting
-/// too.
+/// Opens the wire of the plan's node, on the socket of its address, with its trace if the plan has
+/// one. Typed bytes end its waiting too, if the watch has a socket for them. It counts datagrams
+/// only if the log is on. Fails with `Socket` also if the plan has no address for the node; that is
+/// not noted.
 pub fn open_wire<'a, H: Net + Files + Clock + AllocGlobal, E: Write>(
     rt: &'a H,
     plan: &NodePlan<'a>,

@@ -4,7 +4,7 @@ use Rattle.paxos_msg.specs.Batches.{Body, Change, Record}
 use Rattle.paxos_msg.specs.declared.limits.TheConstants.{LAST_START}
 use Rattle.paxos_msg.specs.declared.record.Change.TheVariants.{Start}
 use Rattle.paxos_acceptor.specs.Answers.{Answer, after}
-use Rattle.paxos_acceptor.specs.Calls.{Mut}
+use Rattle.base.specs.Calls.{Mut}
 use Rattle.paxos_acceptor.specs.Stores.{HasSameOwner, StoreKind, FailsAsPlanned, CountsIf, IsOneOf, MayLoadNoMore, MayLoadOnly}
 use Rattle.paxos_acceptor.specs.declared.fault.AcceptorFault.{AcceptorFault}
 use Rattle.paxos_acceptor.specs.declared.fault.AcceptorFault.TheVariants.{Store, Closed, StartsSpent}

@@ -2,7 +2,7 @@
 use Rattle.std.specs.Prelude.{◌≡◌, ◌↔◌, ◌⊎◌, Bool, true, None, Result, Err, OnOk, OnErr, IsErrOf}
 use Rattle.paxos_msg.specs.Batches.{Change, Record}
 use Rattle.paxos_msg.specs.Records.{changed}
-use Rattle.paxos_acceptor.specs.Calls.{Mut}
+use Rattle.base.specs.Calls.{Mut}
 use Rattle.paxos_acceptor.specs.Stores.{HasSameOwner, StoreKind, StoreState, FailsAsPlanned, CountsIf, IsOneOf, MayLoadNoMore, MayLoadOnly, new_state, old_state}
 use Rattle.paxos_acceptor.specs.declared.fault.AcceptorFault.{AcceptorFault}
 use Rattle.paxos_acceptor.specs.declared.fault.AcceptorFault.TheVariants.{Memory, Store}

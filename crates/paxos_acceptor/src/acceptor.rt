@@ -2,7 +2,7 @@
 ghost use Rattle.std.specs.Prelude.{◌≡◌, ◌≢◌, [], ◌∷◌, false, None, IfOk, IfErr, IsErrOf};
 ghost use Rattle.paxos_msg.specs.Fits.{IsBallot, IsPlace, IsValue};
 ghost use Rattle.paxos_acceptor.specs.Answers.{accept_of, prepare_of, greater_promise};
-ghost use Rattle.paxos_acceptor.specs.Calls.{FailsOnlyWith, IsAmong};
+ghost use Rattle.base.specs.Calls.{FailsOnlyWith, IsAmong};
 ghost use Rattle.paxos_acceptor.specs.Follows.{Answers, CountsStart};
 ghost use Rattle.paxos_acceptor.specs.Opening.{IsOpened, OpensByPlan, OpensFrom, OpensOnce, fault_of_load};
 ghost use Rattle.paxos_acceptor.specs.Records.{IsRecord};

@@ -7,12 +7,12 @@ ghost use Rattle.paxos_msg.specs.Fits.{AreBytes};
 ghost use Rattle.paxos_msg.specs.Records.{changed, empty_record};
 ghost use Rattle.paxos_acceptor.specs.declared.me.Me.{Me};
 ghost use Rattle.paxos_acceptor.specs.Records.{IsRecord};
-ghost use Rattle.paxos_disk.specs.declared.version.Version.TheVariants.{One, Two};
-ghost use Rattle.paxos_disk.specs.declared.version.Version.{Version};
-ghost use Rattle.paxos_disk.specs.declared.ending.Ending.{Ending};
-ghost use Rattle.paxos_disk.specs.declared.form.Form.{Form};
-ghost use Rattle.paxos_disk.specs.declared.form.Form.TheVariants.{Missing};
-ghost use Rattle.paxos_disk.specs.declared.form.Patch.{Patch};
+ghost use Rattle.paxos_disk.specs.declared.record.version.Version.TheVariants.{One, Two};
+ghost use Rattle.paxos_disk.specs.declared.record.version.Version.{Version};
+ghost use Rattle.paxos_disk.specs.declared.log.ending.Ending.{Ending};
+ghost use Rattle.paxos_disk.specs.declared.store.form.Form.{Form};
+ghost use Rattle.paxos_disk.specs.declared.store.form.Form.TheVariants.{Missing};
+ghost use Rattle.paxos_disk.specs.declared.store.form.Patch.{Patch};
 ghost use Rattle.paxos_disk.specs.Entries.{IsEntry, entry_bytes};
 ghost use Rattle.paxos_disk.specs.Files.{IsFiledAs, IsFormAfter, IsFormIn, IsPatch, patched};
 ghost use Rattle.paxos_disk.specs.Log.{IsUncut, LogBy, LogFound, LogIn, log_header};
@@ -26,9 +26,9 @@ ghost use Rattle.paxos_disk.specs.Reads.{IsGood, Reads, Restarts, record_in};
 ghost use Rattle.paxos_disk.specs.Records.{Rec};
 ghost use Rattle.paxos_disk.specs.Version1.{Rec1};
 
-use crate::entry::entries_stay_in_ranges;
-use crate::log_reading::entry_is_spelling;
-use crate::log_store::records_are_read;
+use crate::log::entry::entries_stay_in_ranges;
+use crate::log::reading::entry_is_spelling;
+use crate::store::log_store::records_are_read;
 use paxos_acceptor::Me;
 
 /// In version 2 a header is a log of the empty record. A log without a cut entry, followed by a

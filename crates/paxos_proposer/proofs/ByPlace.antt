@@ -9,7 +9,7 @@ use Rattle.paxos_msg.specs.Records.{with_vote}
 use Rattle.paxos_proposer.specs.declared.kept.Report.{Report}
 use Rattle.paxos_proposer.specs.KeptVotes.{vote_of, reported_votes}
 use Rattle.paxos_msg.specs.Places.{votes_from}
-use Rattle.paxos_proposer.proofs.Passing.{found_all, left_at, left_from}
+use Rattle.paxos_proposer.proofs.PassedVotes.{found_all, left_at, left_from}
 use Rattle.paxos_proposer.proofs.Reported.{found_place, none_above, vote_at-with_vote}
 
 -- ---- what is found at a place

@@ -13,7 +13,7 @@ use Rattle.paxos_msg.specs.Bodies.{IsBody}
 use Rattle.paxos_proposer.specs.Proposer.{Proposer, proposer_after_part, coverage_of, next_of, next_value, proposing, rises}
 use Rattle.paxos_proposer.specs.States.{IsProposerInRange}
 use Rattle.paxos_proposer.proofs.CountingCoverage.{covered_below, set_reach}
-use Rattle.paxos_proposer.proofs.Passing.{found_all, heard_all}
+use Rattle.paxos_proposer.proofs.PassedVotes.{found_all, heard_all}
 use Rattle.paxos_proposer.proofs.Proposals.{proposed_next}
 
 -- ---- a part

@@ -1,5 +1,5 @@
 pub mod CountingCoverage
-pub mod Passing
+pub mod PassedVotes
 pub mod Reported
 pub mod ByPlace
 pub mod GreatestPlace

@@ -14,7 +14,7 @@ use Rattle.paxos_msg.specs.Sending.{IsUnproposed}
 use Rattle.paxos_proposer.specs.Proposer.{Proposer, next_of, next_value, proposed_at, proposing}
 use Rattle.paxos_proposer.specs.Backed.{IsProposerBacked}
 use Rattle.paxos_proposer.proofs.BackedAsMoreIsSent.{stays_with, heard_stays}
-use Rattle.paxos_proposer.proofs.Passing.{left_at}
+use Rattle.paxos_proposer.proofs.PassedVotes.{left_at}
 
 -- ---- the values that are proposed, after one more
 

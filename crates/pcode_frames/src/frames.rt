@@ -46,9 +46,9 @@ fn take_parameters(memory: &mut Memory, stack: &mut Stack, params: u16)
     ensures memory { memory.new ≡ memory.old ++ take params stack.old }
     ensures stack { stack.new ≡ drop params stack.old }
 {
-    for _ in 0..params {
-        memory.push(stack.pop().unwrap());
-    }
+    let words = usize::from(params);
+    memory.extend(stack.upper(words));
+    stack.discard(words);
 }
 
 impl Frames {
@@ -111,7 +111,7 @@ impl Frames {
         ensures { self.new ≡ self.old ++ frame ∷ [] }
     {
         if let Some(caller) = self.current {
-            self.below.push(caller).unwrap();
+            self.below.push_reserved(caller);
         }
         self.current = Some(frame);
     }

@@ -1,5 +1,5 @@
 //! Memory: its live words, and their bytes.
-ghost use Rattle.std.specs.Prelude.{◌≡◌, ◌+◌, ◌<◌, ◌≤◌, [], ◌∷◌, ◌++◌, IfOk, length, is_some, replicate, take};
+ghost use Rattle.std.specs.Prelude.{◌≡◌, ◌+◌, ◌<◌, ◌≤◌, [], ◌++◌, IfOk, length, is_some, replicate, take};
 ghost use Rattle.pcode_frames.specs.declared.limits.TheConstants.{LIVE_WORDS};
 ghost use Rattle.pcode_frames.specs.Words.{live_word_at, with_word, half_of, with_half, byte_from, live_byte_at, with_byte_from, with_byte};
 
@@ -65,12 +65,15 @@ impl Memory {
         self.words.len() as u16
     }
 
-    /// Makes the word above the live ones live, with `value`.
-    pub(crate) fn push(&mut self, value: u16)
-        requires { length self.old < LIVE_WORDS }
-        ensures { self.new ≡ self.old ++ value ∷ [] }
+    /// Makes as many words above the live ones live as `words` has, with these values.
+    #[inline(always)]
+    pub(crate) fn extend(&mut self, words: &[u16])
+        requires { length self.old + length words.now ≤ LIVE_WORDS }
+        ensures { self.new ≡ self.old ++ words.now }
     {
-        self.words.push(value).unwrap();
+        for word in words {
+            self.words.push_reserved(*word);
+        }
     }
 
     /// Makes `count` more words live, all zero.
@@ -79,7 +82,7 @@ impl Memory {
         ensures { self.new ≡ self.old ++ replicate count 0 }
     {
         for _ in 0..count {
-            self.words.push(0).unwrap();
+            self.words.push_reserved(0);
         }
     }
 

@@ -1,5 +1,5 @@
 //! The evaluation stack.
-ghost use Rattle.std.specs.Prelude.{◌≡◌, ◌<◌, ◌≤◌, [], ◌∷◌, IfOk, IfErr, OnOk, OnErr, length, drop, slice_get};
+ghost use Rattle.std.specs.Prelude.{◌≡◌, ◌<◌, ◌≤◌, [], ◌∷◌, IfOk, IfErr, OnOk, OnErr, length, take, drop, slice_get};
 ghost use Rattle.pcode_frames.specs.declared.limits.TheConstants.{STACK_WORDS};
 ghost use Rattle.pcode_frames.specs.declared.halt.Halt.TheVariants.{Empty, Overflow};
 
@@ -74,6 +74,15 @@ impl Stack {
         ensures { self.new ≡ top ∷ drop 1 self.old }
     {
         self.room[self.free] = top;
+    }
+
+    /// Returns the top `words` words, the top first. Requires that the stack has at least `words`.
+    #[inline(always)]
+    pub(crate) fn upper(&self, words: usize) -> &[u16]
+        requires { words ≤ length self.now }
+        ensures { result.now ≡ take words self.now }
+    {
+        &self.room[self.free..self.free + words]
     }
 
     /// Pushes `word`. Fails with `Halt::Overflow` exactly if there are 1,024 words. Then nothing

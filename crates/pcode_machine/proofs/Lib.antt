@@ -1,7 +1,7 @@
 pub mod Live
 pub mod Powers
-pub mod Related
-pub mod Ways
+pub mod EffectRelations
+pub mod TransitionCases
 pub mod LinksExist
 pub mod NamedExists
 pub mod StaysInCode

@@ -23,8 +23,8 @@ use Rattle.pcode_machine.specs.Errors.{error_number}
 use Rattle.pcode_machine.specs.Execute.{execute}
 use Rattle.pcode_machine.specs.Transition.{Goes, Stops, Waiting, transition, pending, moved, decoded, after_effect, end_by}
 use Rattle.pcode_machine.specs.Step.{Moves, Acts, Step, StopsBy, StopsIn, Ends, Awaits}
-use Rattle.pcode_machine.proofs.Ways.{Executed, Moved, went}
-use Rattle.pcode_machine.proofs.Related.{holds, goes, fails}
+use Rattle.pcode_machine.proofs.TransitionCases.{Executed, Moved, went}
+use Rattle.pcode_machine.proofs.EffectRelations.{holds, goes, fails}
 
 -- an instruction is decoded exactly where it is
 abbrev pub Decodes : List ℕ → Type 0

@@ -9,7 +9,7 @@ use Rattle.pcode_ops.specs.Loading.{owner, flow_of, IsFine, HasNext}
 use Rattle.pcode_ops.specs.Reach.{Reach, entered, exited, followed, MayStand}
 use Rattle.pcode_ops.proofs.Apart.{lies_in, owned}
 use Rattle.pcode_ops.proofs.Leading.{looked_inside}
-use Rattle.pcode_ops.proofs.Looking.{owner_is, fine_looked}
+use Rattle.pcode_ops.proofs.FineOffsets.{owner_is, fine_looked}
 use Rattle.pcode_ops.proofs.Ruling.{next_led}
 
 -- ---- where the checks of an offset allow an instruction

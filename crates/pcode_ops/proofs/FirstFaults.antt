@@ -18,7 +18,7 @@ use Rattle.pcode_ops.specs.Faults.{Owns, IsOutside, StandsAt, HasFirstFault, out
 use Rattle.pcode_ops.proofs.Apart.{lies_in, owned}
 use Rattle.pcode_ops.proofs.Entries.{pointing, entries_point}
 use Rattle.pcode_ops.proofs.DecodedIsAt.{decoded_at, at_decoded}
-use Rattle.pcode_ops.proofs.Looking.{owner_is, fine_looked}
+use Rattle.pcode_ops.proofs.FineOffsets.{owner_is, fine_looked}
 use Rattle.pcode_ops.proofs.Ruling.{jumps_to, may_hold, may_flow, flow_leads}
 use Rattle.pcode_ops.proofs.Unread.{bytes_unread, not_read}
 use Rattle.pcode_ops.specs.Jumps.{pointed_by}

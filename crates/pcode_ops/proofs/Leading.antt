@@ -13,7 +13,7 @@ use Rattle.pcode_ops.specs.Reach.{Reach, IsLoadable}
 use Rattle.pcode_ops.specs.Staying.{StaysInPart}
 use Rattle.pcode_ops.proofs.Apart.{lies_in}
 use Rattle.pcode_ops.proofs.LongerCode.{decoded_longer}
-use Rattle.pcode_ops.proofs.Looking.{Looked, owner_is, fine_looked}
+use Rattle.pcode_ops.proofs.FineOffsets.{Looked, owner_is, fine_looked}
 use Rattle.pcode_ops.proofs.Operating.{operands_are}
 use Rattle.pcode_ops.proofs.Ruling.{flow_leads}
 use Rattle.pcode_ops.proofs.DecodedIsAt.{decoded_at}

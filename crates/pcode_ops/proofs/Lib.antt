@@ -3,13 +3,13 @@ pub mod LongerCode
 pub mod Marking
 pub mod Searching
 pub mod DecodedIsAt
-pub mod Looking
+pub mod FineOffsets
 pub mod Rows
 pub mod Operating
 pub mod Leading
 pub mod Apart
 pub mod Allowed
-pub mod Landing
+pub mod JumpTargets
 pub mod Ruling
 pub mod Keeping
 pub mod Covering

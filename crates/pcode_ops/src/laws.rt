@@ -44,7 +44,7 @@ pub fn reached_stays_in_part()
 
 /// What the checks accept, the rules allow in that procedure, and the other way round: the checks
 /// are of calls, static links and returns, and the rules are a relation.
-pub fn legal_may_be_held()
+pub fn legal_iff_may_hold()
     ensures { (procs : List Proc) (q : Proc) (instr : Instr) →
         (legal procs q instr ≡ Ok tt) ↔ MayHold procs q instr }
 {}
@@ -153,7 +153,7 @@ pub fn owner_has_the_offset()
 
 /// An offset is without fault exactly where an instruction stands within a procedure's part, may be
 /// held by that procedure, and leads nowhere out of the part. It leads where the rules say.
-pub fn fine_is_to_stand()
+pub fn fine_iff_stands()
     ensures fine { (p : Parts) (i : ℕ) → AreProcs p.segment p.procs →
         IsFine p i ↔ ((q : Proc) × (instr : Instr) × (j : ℕ) × StandsAt p i q instr j) }
     ensures leads { (p : Parts) (i : ℕ) (q : Proc) (instr : Instr) (j : ℕ) (o : Onward) →

@@ -1,16 +1,16 @@
 //! The program `pgroup`: the command line on the streams of its process.
 #![tactic(auto)]
 
+use command_arguments::arguments_of;
 use command_line::{command, explain};
-use command_words::words_of;
 use std::io;
 use std::process::ExitCode;
 
 fn main(rt: HostRuntime) -> ExitCode {
-    let status = match words_of(&rt) {
-        Ok(words) => command(
+    let status = match arguments_of(&rt) {
+        Ok(arguments) => command(
             &rt,
-            words.as_slice(),
+            arguments.as_slice(),
             &mut rt.reader(),
             &mut io::writer(&rt),
             &mut rt.stderr(),

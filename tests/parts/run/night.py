@@ -1,5 +1,5 @@
-"""What docs/check says of docs/NIGHT.md if a message, a code or a line of a node's log is new or
-has changed: of a copy of some of what it reads of this repository."""
+"""What tools/check-docs says of docs/NIGHT.md if a message, a code or a line of a node's log is new
+or has changed: of a copy of some of what it reads of this repository."""
 
 import os
 import shutil
@@ -10,8 +10,8 @@ from ..files import bytes_of
 from ..program import TOP
 from .clones import append, replace
 
-sys.path.insert(0, os.path.join(TOP, "docs"))
-from checking import night, tree
+sys.path.insert(0, os.path.join(TOP, "tools"))
+from doc_checks import night, tree
 
 PAGE, FORMATS = "docs/NIGHT.md", "docs/FORMATS.md"
 CODES = "crates/command_line/src/codes.rt"
@@ -19,8 +19,8 @@ LEAD, LOCKS = "tools/group/lead", "tools/group/shared/locks.py"
 SERVER = "tools/group/shared/paging/server.py"
 # The scripts that are changed here, and those with the exceptions of the rule.
 FILES = [
-    PAGE, FORMATS, CODES, "run", "console", "tools/bash/provide.bash", "tools/group/attach", LEAD,
-    LOCKS, SERVER,
+    PAGE, FORMATS, CODES, "run", "tools/console", "tools/bash/provide.bash", "tools/group/attach",
+    LEAD, LOCKS, SERVER,
     *(f"tools/group/shared/{it}.py" for it in (
         "paging/guard", "paging/live", "replica/script", "screens", "seen", "sitting/session",
         "sitting/sitting", "supervising/beats", "synced",
@@ -35,7 +35,7 @@ ADDED = [
     ("a refusal of a class of its own", LOCKS, "raise InUse('the lock ' 'has rusted')",
      "the lock has rusted"),
     ("a message of ./run", "run", 'say "no $crate is at $(date "+%s")"', "no .. is at"),
-    ("a message of console", "console", "echo 'console: it burns' >&2", "console: it burns"),
+    ("a message of console", "tools/console", "echo 'console: it burns' >&2", "console: it burns"),
     ("a text for an empty variable", "tools/bash/provide.bash", 'why=${why:-"it burns"}',
      "it burns"),
     ("a message that is a part of a word", LOCKS, "say('odes that')", "odes that"),
@@ -75,7 +75,7 @@ CHANGES = [
 
 
 class OfCopy(Checks):
-    """A copy of some files of this repository, at which docs/check looks."""
+    """A copy of some files of this repository, at which tools/check-docs looks."""
 
     maxDiff = None
 

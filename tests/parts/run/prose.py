@@ -1,5 +1,5 @@
-"""What docs/check says of pages that are too long, of lines that are too wide, of links that lead
-nowhere, and of sources that a page shows: of pages that are made here."""
+"""What tools/check-docs says of pages that are too long, of lines that are too wide, of links that
+lead nowhere, and of sources that a page shows: of pages that are made here."""
 
 import os
 import sys
@@ -7,14 +7,14 @@ import sys
 from ..checks import Checks
 from ..program import TOP
 
-sys.path.insert(0, os.path.join(TOP, "docs"))
-from checking import lengths, links, pages, tree, wrapped
+sys.path.insert(0, os.path.join(TOP, "tools"))
+from doc_checks import lengths, links, pages, tree, wrapped
 
 WORD = "word "
 
 
 class OfPages(Checks):
-    """A folder with pages, at which docs/check looks."""
+    """A folder with pages, at which tools/check-docs looks."""
 
     def setUp(self):
         super().setUp()
@@ -85,7 +85,7 @@ class OfWrapping(OfPages):
         look = lambda is_write: self.faults(lambda: wrapped.check(is_write))
         with self.check("a page that is not wrapped is refused, and wrapped"):
             self.assertEqual(look(False), [
-                "docs/ONE.md:1: is not wrapped at 100 columns; docs/check --write wraps it"])
+                "docs/ONE.md:1: is not wrapped at 100 columns; tools/check-docs --write wraps it"])
             self.assertEqual(look(True) + look(False), [])
 
 

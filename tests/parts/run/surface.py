@@ -1,5 +1,5 @@
-"""What docs/check says of the public names of crates: of two small ones, whose exports are written
-down here by hand, and of a copy of this repository."""
+"""What tools/check-docs says of the public names of crates: of two small ones, whose exports are
+written down here by hand, and of a copy of this repository."""
 
 import os
 import re
@@ -11,8 +11,8 @@ from ..files import bytes_of
 from ..program import TOP, ran
 from .clones import SECONDS, append, replace
 
-sys.path.insert(0, os.path.join(TOP, "docs"))
-from checking import surface, tree
+sys.path.insert(0, os.path.join(TOP, "tools"))
+from doc_checks import surface, tree
 
 LIB = """\
 //! A crate. pub fn in_a_comment()
@@ -170,7 +170,7 @@ two: Crate = one::Crate
 BOXES_OF_ONE, LIB_OF_ONE = "crates/one/src/boxes.rt", "crates/one/src/lib.rt"
 SUM = ("sum<W: Write<Item = u8>>(one: u8, two: &[u8; 2], writer: &mut W) "
        "-> Result<Option<u16>, Fault>")
-DECIDE = "or write the decision into docs/DECISIONS.md and run docs/check --write-surface"
+DECIDE = "or write the decision into docs/DECISIONS.md and run tools/check-docs --write-surface"
 
 
 def gone(*lines):
@@ -227,15 +227,15 @@ CHANGES = [
     ("a law that goes", "crates/one/src/laws.rt", "goes, ", "", gone("laws::goes")),
     ("a law that comes", "crates/one/src/laws.rt", "goes, ", "goes, unsaid, ", new("laws::unsaid")),
     ("an export that nothing stands for", LIB_OF_ONE, "Keeper, ", "Keeper, Nobody, ",
-     ["crates/one: exports boxes::Nobody, which docs/checking/surface.py does not find: teach it "
-      "this form"]),
+     ["crates/one: exports boxes::Nobody, which tools/doc_checks/surface.py does not find: teach "
+      "it this form"]),
     ("an export of what is no crate here", LIB_OF_ONE, "pub use limits", "pub use borders",
      gone("const MOST: u8")
-     + ["crates/one: exports borders::MOST, which docs/checking/surface.py does not find: teach it "
-        "this form"]),
+     + ["crates/one: exports borders::MOST, which tools/doc_checks/surface.py does not find: teach "
+        "it this form"]),
     ("a form that is not known", LIB_OF_ONE, "pub mod laws", 'pub extern "C" {}\npub mod laws',
-     ['crates/one: has `pub extern "" {}`, which docs/checking/surface.py does not know: teach it '
-      "this form"]),
+     ['crates/one: has `pub extern "" {}`, which tools/doc_checks/surface.py does not know: teach '
+      "it this form"]),
 ]
 # Changes that no caller sees.
 INSIDE = [
@@ -296,7 +296,7 @@ class OfCrates(Checks):
             self.write(path, SOURCES[path])
 
     def test_list(self):
-        other = "is not what docs/check --write-surface writes: run that"
+        other = "is not what tools/check-docs --write-surface writes: run that"
         disorder = f"docs/surface.txt: its head, its order or a line that it has twice {other}"
         append(os.path.join(self.room, surface.PATH), f"one: {SUM}\n")
         self.says("a line that it has twice", [disorder])
@@ -308,7 +308,7 @@ class OfCrates(Checks):
         why = "is in docs/surface.txt and no longer public: put the name back"
         self.says("a line that a merge has left", [f"<<<<<<< ours {why}, {DECIDE}"])
         os.remove(os.path.join(self.room, surface.PATH))
-        missing = "is missing: get it back from git, or run docs/check --write-surface"
+        missing = "is missing: get it back from git, or run tools/check-docs --write-surface"
         self.says("no list", [f"docs/surface.txt: {missing}"])
 
 
@@ -326,15 +326,16 @@ class OfRepository(Checks):
             for path in (os.path.join(at, it) for it in files):
                 if re.search(rf"\b{name}\b", bytes_of(path).decode()):
                     replace(path, rf"\b{name}\b", f"{name}_renamed")
-        check = [os.path.join(copy, "docs", "check")]
+        check = [os.path.join(copy, "tools", "check-docs")]
         done = ran([*check, "--write"], seconds=SECONDS)
-        with self.check("docs/check --write refuses a rename, and leaves the list as it is"):
-            wanted = f"docs/check: {line} is in docs/surface.txt and no longer public: "
+        with self.check("tools/check-docs --write refuses a rename, and leaves the list as it is"):
+            wanted = f"tools/check-docs: {line} is in docs/surface.txt and no longer public: "
             self.assertIn(wanted, done.stderr.decode())
-            self.assertIn(f"docs/check: {renamed} is public and not in ", done.stderr.decode())
+            wanted = f"tools/check-docs: {renamed} is public and not in "
+            self.assertIn(wanted, done.stderr.decode())
             self.assertEqual((done.returncode, bytes_of(there).decode()), (1, before))
         done = ran([*check, "--write-surface"], seconds=SECONDS)
-        with self.check("docs/check --write-surface writes the list"):
+        with self.check("tools/check-docs --write-surface writes the list"):
             written = "docs: docs/surface.txt is written. Lines that are new: 1. "
             self.assertIn(f"{written}Lines that are gone: 1.\n", done.stdout.decode())
             self.assertNotIn("surface.txt", done.stderr.decode())

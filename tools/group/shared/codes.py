@@ -1,5 +1,6 @@
-"""The codes of refusals, each with a sentence. docs/FORMATS.md has the same table, and docs/check
-compares the two. As a script it prints the sentence of a line's code, for `console`:
+"""The codes of refusals, each with a sentence. docs/FORMATS.md has the same table, and
+tools/check-docs compares the two. As a script it prints the sentence of a line's code, for
+`console`:
 
     codes.py LINE
 """

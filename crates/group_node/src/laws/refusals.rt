@@ -4,7 +4,7 @@ ghost use Rattle.paxos_msg.specs.declared.limits.TheConstants.{LAST_ROUND};
 ghost use Rattle.group_protocol.specs.declared.limits.TheConstants.{MOST_WAITING};
 ghost use Rattle.group_protocol.specs.Calls.{IsCampaignRefused, IsTypingRefused};
 ghost use Rattle.group_protocol.specs.Known.{Known};
-ghost use Rattle.group_protocol.specs.ProposerRows.{last_round};
+ghost use Rattle.group_protocol.specs.ProposerResponses.{last_round};
 ghost use Rattle.group_node.specs.NodeCalls.{answer_to_call, call_of_campaign, call_of_press};
 
 /// A node refuses a byte exactly where `call_of_press` does, and a campaign exactly where

@@ -14,10 +14,10 @@ ghost use Rattle.paxos_proposer.specs.Proposer.{asks_after, IsPromisePart, next_
 ghost use Rattle.paxos_msg.specs.declared.limits.TheConstants.{LAST_ROUND, LAST_SERIAL, LAST_START, PLACES};
 ghost use Rattle.group_protocol.specs.declared.limits.TheConstants.{MESSAGE_PACKETS, MOST_TOLD, MOST_WAITING, TICK_PACKETS};
 ghost use Rattle.group_protocol.specs.Protocol.{on_message};
-ghost use Rattle.group_protocol.specs.AcceptorRows.{on_accept, on_prepare};
+ghost use Rattle.group_protocol.specs.AcceptorResponses.{on_accept, on_prepare};
 ghost use Rattle.group_protocol.specs.Known.{begun, on_typed, front, next_serial, Known, on_start};
-ghost use Rattle.group_protocol.specs.LearnerRows.{on_accepted, on_ask, on_tell};
-ghost use Rattle.group_protocol.specs.ProposerRows.{on_promise, on_submit, offer_after, on_campaign, on_refused, next_ballot};
+ghost use Rattle.group_protocol.specs.LearnerResponses.{on_accepted, on_ask, on_tell};
+ghost use Rattle.group_protocol.specs.ProposerResponses.{on_promise, on_submit, offer_after, on_campaign, on_refused, next_ballot};
 ghost use Rattle.group_protocol.specs.Tick.{on_tick};
 ghost use Rattle.group_protocol.specs.WaitingKeys.{batch_of, without_read};
 ghost use Rattle.group_protocol.specs.Pump.{offer, Proposals, pump};
@@ -50,7 +50,7 @@ pub fn what_goes_out_fits()
     ensures message { (n : Known) (j : ℕ) (body : Body) → IsInRange n → IsHeardFit n.me j body
         → IsFit n.me (on_message n j body) }
 {
-    rows_fit();
+    responses_fit();
     accepts_fit();
     promises_fit();
     greater_ballots_are_promised();
@@ -62,7 +62,7 @@ pub fn what_goes_out_fits()
 
 /// A node stays in its ranges, and each packet has a spelling, at a message of each kind, before
 /// the waiting keys below the front leave; and it stays in its ranges when they leave.
-pub fn rows_fit()
+pub fn responses_fit()
     ensures prepare { (n : Known) (j from : ℕ) (b : Ballot) → IsInRange n
         → IsHeardFit n.me j (Prepare b from) → IsFit n.me (on_prepare n b from) }
     ensures promise { (n : Known) (j first upto : ℕ) (b : Ballot) (votes : List Vote) → IsInRange n

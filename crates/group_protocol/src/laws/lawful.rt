@@ -11,9 +11,9 @@ ghost use Rattle.paxos_msg.specs.Keys.{Key, keys_of};
 ghost use Rattle.paxos_acceptor.specs.declared.me.Me.{Me};
 ghost use Rattle.paxos_acceptor.specs.Stores.{IsOneOf};
 ghost use Rattle.group_protocol.specs.Backs.{Backs, IsRecordBacked};
-ghost use Rattle.group_protocol.specs.Protocol.{on_message, row};
+ghost use Rattle.group_protocol.specs.Protocol.{on_message, response_to};
 ghost use Rattle.group_protocol.specs.Known.{on_typed, Response, new_key, Known, on_start};
-ghost use Rattle.group_protocol.specs.ProposerRows.{on_campaign};
+ghost use Rattle.group_protocol.specs.ProposerResponses.{on_campaign};
 ghost use Rattle.group_protocol.specs.Tick.{on_tick};
 ghost use Rattle.group_protocol.specs.Ranges.{IsInRange};
 ghost use Rattle.group_protocol.specs.Steps.{AllChosen, AllTyped, messages_handed_out, IsDelivered, IsLawful, IsLawfulCall};
@@ -46,7 +46,7 @@ pub fn calls_are_lawful()
         → IsInRange n → Backs sent typed n → IsDelivered sent n j body
         → IsLawfulCall sent typed n (on_message n j body) }
 {
-    rows_are_lawful();
+    responses_are_lawful();
     backing();
     proposer_stays_backed();
     learner_stays_backed();
@@ -59,10 +59,10 @@ pub fn calls_are_lawful()
 
 /// A message of each kind that was sent and has a spelling is lawful at a node that is in its
 /// ranges and backed, before the waiting keys below the front leave.
-pub fn rows_are_lawful()
+pub fn responses_are_lawful()
     ensures { (sent : Sent) (typed : List Key) (n : Known) (j : ℕ) (body : Body) → IsInRange n
         → Backs sent typed n → IsDelivered sent n j body
-        → IsLawfulCall sent typed n (row n j body) }
+        → IsLawfulCall sent typed n (response_to n j body) }
 {
     backing();
     proposer_stays_backed();
@@ -98,9 +98,10 @@ pub fn others_keep_it_backed()
     learner_stays_backed();
 }
 
-/// A lawful call continues the growth on which agreement rests. If all that Tells have said is
-/// chosen, then what the node learns, and what its Tells say, is chosen; if all that was submitted
-/// was typed, so is what it submits. A save that failed, with nothing sent, leaves a backed record.
+/// After a lawful call messages and records have still grown by allowed steps (`Grew`), on which
+/// agreement rests. If all that Tells have said is chosen, then what the node learns, and what its
+/// Tells say, is chosen. If all that was submitted was typed, so is what it submits. A save that
+/// failed, with nothing sent, leaves a backed record.
 pub fn lawful_calls_go_on()
     ensures grew { (sent : Sent) (typed : List Key) (records next : ℕ → Record)
         (before : FinMap nat_cmp Value) (done : Response)

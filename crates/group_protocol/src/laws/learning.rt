@@ -4,7 +4,7 @@ ghost use Rattle.paxos_msg.specs.Batches.{Body};
 ghost use Rattle.paxos_learner.specs.Learner.{HasLearnedMore};
 ghost use Rattle.group_protocol.specs.Known.{Known};
 ghost use Rattle.group_protocol.specs.Protocol.{on_message};
-ghost use Rattle.group_protocol.specs.ProposerRows.{on_campaign};
+ghost use Rattle.group_protocol.specs.ProposerResponses.{on_campaign};
 ghost use Rattle.group_protocol.specs.Tick.{on_tick};
 
 use paxos_learner::laws::learned_stays;

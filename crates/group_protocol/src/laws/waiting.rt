@@ -11,7 +11,7 @@ ghost use Rattle.paxos_msg.specs.declared.limits.TheConstants.{MOST_CHARACTERS};
 ghost use Rattle.group_protocol.specs.Known.{Known, new_key, next_serial, on_start, on_typed};
 ghost use Rattle.group_protocol.specs.Packets.{bodies_of};
 ghost use Rattle.group_protocol.specs.Protocol.{on_message};
-ghost use Rattle.group_protocol.specs.ProposerRows.{on_campaign};
+ghost use Rattle.group_protocol.specs.ProposerResponses.{on_campaign};
 ghost use Rattle.group_protocol.specs.Tick.{on_tick};
 ghost use Rattle.group_protocol.specs.WaitingKeys.{batch_of, waiting_keys, without_read};
 

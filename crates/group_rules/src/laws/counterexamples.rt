@@ -4,7 +4,7 @@ ghost use Rattle.paxos_msg.specs.declared.value.Value.TheVariants.{Keys};
 ghost use Rattle.paxos_msg.specs.Chosen.{IsChosen};
 ghost use Rattle.paxos_learner.specs.Input.{keys_in_order};
 ghost use Rattle.group_rules.specs.Claims.{AreApart, AreInOrder, ConsolesAgree, ConsolesGrow, ConsolesHoldOutput, HasNoGap, KeysOnce, LearnedAgree, LearnedChosen, LearnedStays, SerialsInOrder};
-ghost use Rattle.group_rules.specs.WrongWorlds.{chosen_two, early_byte, key, not_chosen, not_typed, other_byte, two_consoles, two_values, wrong_console};
+ghost use Rattle.group_rules.specs.Counterexamples.{chosen_two, early_byte, key, not_chosen, not_typed, other_byte, two_consoles, two_values, wrong_console};
 
 use group_node::laws::input_is_chosen;
 

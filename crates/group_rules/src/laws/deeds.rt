@@ -16,7 +16,7 @@ ghost use Rattle.paxos_acceptor.specs.Stores.{IsOneOf};
 ghost use Rattle.group_protocol.specs.Protocol.{on_message};
 ghost use Rattle.group_node.specs.Deeds as deed;
 ghost use Rattle.group_protocol.specs.Known.{on_typed, new_key, Known, on_start};
-ghost use Rattle.group_protocol.specs.ProposerRows.{on_campaign};
+ghost use Rattle.group_protocol.specs.ProposerResponses.{on_campaign};
 ghost use Rattle.group_protocol.specs.Tick.{on_tick};
 ghost use Rattle.group_protocol.specs.Ranges.{IsHeardFit};
 ghost use Rattle.group_rules.specs.Rules.{after_call, seat_of, Sits, SitsSoundly, with_seat, WorldState, WorldStep};

@@ -4,7 +4,7 @@ ghost use Rattle.std.specs.Prelude.{◌∷◌, []};
 ghost use Rattle.paxos_msg.specs.declared.value.Value.TheVariants.{Noop};
 ghost use Rattle.paxos_msg.specs.Chosen.{IsChosen};
 ghost use Rattle.group_rules.specs.Claims.{ConsolesAgree, ConsolesGrow, ConsolesHoldOutput, ConsolesShowReleased, HasNoGap, KeysOnce, LearnedAgree, LearnedChosen, LearnedStays, SerialsInOrder};
-ghost use Rattle.group_rules.specs.WrongGroups.{apart_consoles, chosen_three, forty_and, bare, late_unchosen, late_untyped, late_values, learned_late, letters_shown, ninth_written, seventh_key, third_keys, three_of_nine, three_written};
+ghost use Rattle.group_rules.specs.FarCounterexamples.{apart_consoles, chosen_three, forty_and, bare, late_unchosen, late_untyped, late_values, learned_late, letters_shown, ninth_written, seventh_key, third_keys, three_of_nine, three_written};
 ghost use Rattle.group_rules.specs.WrongSteps.{no_code};
 
 use group_node::laws::input_is_chosen;

@@ -3,11 +3,11 @@
 ghost use Rattle.pcode_file.specs.Parts.{Parts};
 ghost use Rattle.group_rules.specs.Claims.{ConsolesHoldOutput, ConsolesShowReleased, KeysOnce, LearnedChosen, LearnedStays, SerialsInOrder};
 ghost use Rattle.group_rules.specs.Leads.{LeadsUnder};
-ghost use Rattle.group_rules.specs.RightGroups.{one_new};
+ghost use Rattle.group_rules.specs.Reachable.{one_new};
 ghost use Rattle.group_rules.specs.Rules.{WorldState};
 ghost use Rattle.group_rules.specs.WeakerRules.{Cause, Configuration_stays, Fall_keeps, Gains, Moves, Next, Released_stays, Saves, Sends, Serial, Start_counts, Start_of_key, StepWithout, Submits, Waiting};
 ghost use Rattle.group_rules.specs.WithoutRules.{counted_deeds, fallen_deeds, learned_again_deeds, left_unread_deeds, run_out_deeds, second_alone_deeds, started_hearing_deeds, ticked_deeds, ticked_out_deeds, told_deeds, twin_batch, typed_deeds, voted_back_deeds, late_batch};
-ghost use Rattle.group_rules.specs.WrongWorlds.{silent};
+ghost use Rattle.group_rules.specs.Counterexamples.{silent};
 
 use group_node::laws::input_is_chosen;
 

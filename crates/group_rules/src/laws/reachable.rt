@@ -14,7 +14,7 @@ ghost use Rattle.group_rules.specs.Rules.{WorldState, WorldStep};
 ghost use Rattle.group_rules.specs.WrongSteps.{ballot_by};
 ghost use Rattle.group_rules.specs.Claims.{AreInOrder, HasLearned};
 ghost use Rattle.group_rules.specs.Leads.{LeadsByRules};
-ghost use Rattle.group_rules.specs.RightGroups.{opening_ballot, first_batch, first_two, last_two, one_new, overlapping_deeds, restart_deeds, second_batch, takeover_deeds, three_new, two_learn_deeds, two_show_deeds, two_starts_deeds};
+ghost use Rattle.group_rules.specs.Reachable.{opening_ballot, first_batch, first_two, last_two, one_new, overlapping_deeds, restart_deeds, second_batch, takeover_deeds, three_new, two_learn_deeds, two_show_deeds, two_starts_deeds};
 ghost use Rattle.group_rules.specs.SmallPrograms.{echoes, letter_program};
 
 use pcode_machine::laws::step_is_transition;

@@ -1,5 +1,5 @@
-//! Laws that the definition of a step of a group cannot be bent: steps written down by hand, each
-//! wrong in one way alone, are none.
+//! Laws that the definition of a step of a group cannot be bent: of steps that are written down by
+//! hand, each wrong in one way alone, none is a step by the rules.
 ghost use Rattle.std.specs.Prelude.{◌++◌, ◌≢◌, ℕ, List, [], ◌∷◌};
 ghost use Rattle.std.specs.FinMap.{empty, insert};
 ghost use Rattle.paxos_msg.specs.declared.ballot.Ballot.{Ballot};
@@ -9,7 +9,7 @@ ghost use Rattle.paxos_msg.specs.declared.value.Value.TheVariants.{Keys};
 ghost use Rattle.paxos_msg.specs.Batches.{Record, Vote};
 ghost use Rattle.group_node.specs.Deeds as deed;
 ghost use Rattle.group_rules.specs.Rules.{Up, WorldStep};
-ghost use Rattle.group_rules.specs.WrongSteps.{ask_by, ballot_by, both_keys, fortieth, four_accepted, kept_by, kept_third, kept_voted, named_program, nine, HearingLeaves, nine_fell, nine_keep, nine_sent, nine_show, nine_submit, nine_type, nine_up, ninth_key, seat_down, seat_up, sent_by_ninth, seventh_proposes, sixth_now, sixth_was, two_of_nine, up_as, up_learned, up_reading, up_waiting, up_written};
+ghost use Rattle.group_rules.specs.WrongSteps.{ask_by, ballot_by, both_keys, batch_40, four_accepted, kept_by, kept_third, kept_voted, named_program, nine, HearingLeaves, nine_fell, nine_keep, nine_sent, nine_show, nine_submit, nine_type, nine_up, key_of_9, seat_down, seat_up, sent_by_ninth, seventh_proposes, sixth_now, sixth_was, two_of_nine, up_as, up_learned, up_reading, up_waiting, up_written};
 
 use pcode_machine::laws::{step_is_transition, step_only_adds};
 
@@ -19,14 +19,14 @@ use pcode_machine::laws::{step_is_transition, step_only_adds};
 /// leave before the first; and none appears.
 pub fn wrong_learning()
     // LearnsOnly.keeps.
-    ensures forgets { ¬ WorldStep (nine_up (up_learned (insert empty 700 (fortieth 65))))
+    ensures forgets { ¬ WorldStep (nine_up (up_learned (insert empty 700 (batch_40 65))))
         9 deed.Tick (nine_up (up_learned empty)) }
     // LearnsOnly.gains, at a place and size of its own.
     ensures learns_by_four { ¬ WorldStep
-        (nine (seat_up kept_third [] (up_learned empty)) (four_accepted (fortieth 65)) [])
+        (nine (seat_up kept_third [] (up_learned empty)) (four_accepted (batch_40 65)) [])
         9 deed.Tick
-        (nine (seat_up kept_third [] (up_learned (insert empty 700 (fortieth 65))))
-        (four_accepted (fortieth 65)) []) }
+        (nine (seat_up kept_third [] (up_learned (insert empty 700 (batch_40 65))))
+        (four_accepted (batch_40 65)) []) }
     // LearnsOnly.configuration.
     ensures writes { ¬ WorldStep (nine_up (up_written [] 0)) 9 deed.Tick
         (nine_up (up_written (65 ∷ []) 0)) }
@@ -37,20 +37,20 @@ pub fn wrong_learning()
     ensures counts_back { ¬ WorldStep (nine_up (up_written (65 ∷ 66 ∷ []) 1)) 9 deed.Tick
         (nine_up (up_written (65 ∷ 66 ∷ []) 0)) }
     // AreParted.below.
-    ensures leaves_unread { ¬ WorldStep (nine_up (up_waiting (ninth_key 40 65 ∷ [])))
+    ensures leaves_unread { ¬ WorldStep (nine_up (up_waiting (key_of_9 40 65 ∷ [])))
         9 deed.Tick (nine_up (up_waiting [])) }
     // AreParted.below: the front.
     ensures leaves_above_a_hole { ¬ WorldStep
-        (nine_up (up_as (insert empty 700 (fortieth 65)) [] 0 (ninth_key 40 65 ∷ [])))
-        9 deed.Tick (nine_up (up_as (insert empty 700 (fortieth 65)) [] 0 [])) }
+        (nine_up (up_as (insert empty 700 (batch_40 65)) [] 0 (key_of_9 40 65 ∷ [])))
+        9 deed.Tick (nine_up (up_as (insert empty 700 (batch_40 65)) [] 0 [])) }
     // AreParted.parts: the order.
     ensures leaves_the_end { ¬ WorldStep
         (nine_up (up_as (insert empty 0 (Keys 9 3 41 (66 ∷ []))) [] 0
-        (ninth_key 40 65 ∷ ninth_key 41 66 ∷ []))) 9 deed.Tick
-        (nine_up (up_as (insert empty 0 (Keys 9 3 41 (66 ∷ []))) [] 0 (ninth_key 40 65 ∷ []))) }
+        (key_of_9 40 65 ∷ key_of_9 41 66 ∷ []))) 9 deed.Tick
+        (nine_up (up_as (insert empty 0 (Keys 9 3 41 (66 ∷ []))) [] 0 (key_of_9 40 65 ∷ []))) }
     // AreParted.parts.
     ensures appears { ¬ WorldStep (nine_up (up_waiting [])) 9 deed.Tick
-        (nine_up (up_waiting (ninth_key 40 65 ∷ []))) }
+        (nine_up (up_waiting (key_of_9 40 65 ∷ []))) }
 {}
 
 /// A tick saves nothing, shows nothing, takes no node down, and types no key.
@@ -65,7 +65,7 @@ pub fn wrong_ticks()
     ensures falls { ¬ WorldStep (nine_keep kept_third) 9 deed.Tick (nine_fell kept_third) }
     // The [] of a Tick, and ChangesOnly.typed.
     ensures types { ¬ WorldStep (nine_type 40 [] []) 9 deed.Tick
-        (nine_type 41 (ninth_key 40 65 ∷ []) (ninth_key 40 65 ∷ [])) }
+        (nine_type 41 (key_of_9 40 65 ∷ []) (key_of_9 40 65 ∷ [])) }
 {}
 
 /// A message but a Prepare or an Accept changes nothing in the record, whatever it says. At a
@@ -73,7 +73,7 @@ pub fn wrong_ticks()
 pub fn wrong_causes()
     // MayCause at a Prepare.
     ensures at_prepare { (b : Ballot) (from : ℕ) → ¬ HearingLeaves (Prepare b from)
-        (kept_voted (fortieth 65)) }
+        (kept_voted (batch_40 65)) }
     // MayCause at a Promise.
     ensures at_promise { (b : Ballot) (first upto : ℕ) (votes : List Vote) (kept : Record)
         → kept ≢ kept_third → ¬ HearingLeaves (Promise b first upto votes) kept }
@@ -102,17 +102,17 @@ pub fn wrong_votes()
     ensures other_promise { ¬ HearingLeaves (Prepare (ballot_by 5 41) 700)
         (kept_by 3 (ballot_by 5 42)) }
     // MayCause at an Accept: the kind of change.
-    ensures promise_at_accept { ¬ HearingLeaves (Accept (ballot_by 5 41) 700 (fortieth 65))
+    ensures promise_at_accept { ¬ HearingLeaves (Accept (ballot_by 5 41) 700 (batch_40 65))
         (kept_by 3 (ballot_by 5 41)) }
     // MayCause at an Accept: the value.
-    ensures other_value { ¬ HearingLeaves (Accept (ballot_by 7 41) 700 (fortieth 66))
-        (kept_voted (fortieth 65)) }
+    ensures other_value { ¬ HearingLeaves (Accept (ballot_by 7 41) 700 (batch_40 66))
+        (kept_voted (batch_40 65)) }
     // MayCause at an Accept: the place.
-    ensures other_place { ¬ HearingLeaves (Accept (ballot_by 7 41) 701 (fortieth 65))
-        (kept_voted (fortieth 65)) }
+    ensures other_place { ¬ HearingLeaves (Accept (ballot_by 7 41) 701 (batch_40 65))
+        (kept_voted (batch_40 65)) }
     // MayCause at an Accept: the ballot.
-    ensures other_ballot { ¬ HearingLeaves (Accept (ballot_by 7 42) 700 (fortieth 65))
-        (kept_voted (fortieth 65)) }
+    ensures other_ballot { ¬ HearingLeaves (Accept (ballot_by 7 42) 700 (batch_40 65))
+        (kept_voted (batch_40 65)) }
     // MayCause at a Prepare: the kind of change.
     ensures counts_start { ¬ HearingLeaves (Prepare (ballot_by 5 41) 700)
         (kept_by 4 (ballot_by 7 40)) }
@@ -135,7 +135,7 @@ pub fn wrong_campaigns()
     ensures counts_start { ¬ WorldStep (nine_keep kept_third) 9 deed.Campaign
         (nine_keep (kept_by 4 (ballot_by 9 41))) }
     // MakesCall.left: the record.
-    ensures forgets_vote { ¬ WorldStep (nine_keep (kept_voted (fortieth 65))) 9 deed.Campaign
+    ensures forgets_vote { ¬ WorldStep (nine_keep (kept_voted (batch_40 65))) 9 deed.Campaign
         (nine_keep (kept_by 3 (ballot_by 9 42))) }
 {}
 
@@ -179,7 +179,7 @@ pub fn wrong_starts()
     // StartsUp.left: what was learned.
     ensures keeps_learned { ¬ WorldStep (nine_fell kept_third) 9 (deed.Start kept_third)
         (nine (seat_up (kept_by 4 (ballot_by 7 40)) []
-        (up_learned (insert empty 700 (fortieth 65)))) [] []) }
+        (up_learned (insert empty 700 (batch_40 65)))) [] []) }
     // StartsUp.left: the configuration.
     ensures keeps_output { ¬ WorldStep (nine_fell kept_third) 9 (deed.Start kept_third)
         (nine (seat_up (kept_by 4 (ballot_by 7 40)) [] (up_written (65 ∷ []) 0)) [] []) }
@@ -188,13 +188,13 @@ pub fn wrong_starts()
         (nine (seat_up (kept_by 4 (ballot_by 7 40)) [] (up_written [] 1)) [] []) }
     // StartsUp.left: the keys that wait.
     ensures keeps_waiting { ¬ WorldStep (nine_fell kept_third) 9 (deed.Start kept_third)
-        (nine (seat_up (kept_by 4 (ballot_by 7 40)) [] (up_waiting (ninth_key 40 65 ∷ []))) [] []) }
+        (nine (seat_up (kept_by 4 (ballot_by 7 40)) [] (up_waiting (key_of_9 40 65 ∷ []))) [] []) }
     // StartsUp.left: the record, and Falls.down.
     ensures unsaved { ¬ WorldStep (nine_fell kept_third) 9 (deed.Start kept_third)
         (nine_keep kept_third) }
     // StartsUp.left: the record.
-    ensures forgets_vote { ¬ WorldStep (nine_fell (kept_voted (fortieth 65)))
-        9 (deed.Start (kept_voted (fortieth 65))) (nine_keep (kept_by 4 (ballot_by 7 41))) }
+    ensures forgets_vote { ¬ WorldStep (nine_fell (kept_voted (batch_40 65)))
+        9 (deed.Start (kept_voted (batch_40 65))) (nine_keep (kept_by 4 (ballot_by 7 41))) }
     // StartsUp.left: the record.
     ensures forgets_promise { ¬ WorldStep (nine_fell kept_third) 9 (deed.Start kept_third)
         (nine_keep (record (kept_by 4 (ballot_by 7 40)) { promised = None })) }
@@ -248,7 +248,7 @@ pub fn wrong_crashes()
     ensures shows_a_byte { ¬ WorldStep (nine_show [] (up_written (65 ∷ []) 0)) 9 deed.Crash
         (nine (seat_down kept_third (65 ∷ [])) [] []) }
     // Crashes.left: the record.
-    ensures forgets_vote { ¬ WorldStep (nine_keep (kept_voted (fortieth 65))) 9 deed.Crash
+    ensures forgets_vote { ¬ WorldStep (nine_keep (kept_voted (batch_40 65))) 9 deed.Crash
         (nine_fell kept_third) }
     // Crashes.left: that the node is down.
     ensures leaves_it_up { ¬ WorldStep (nine_keep kept_third) 9 deed.Crash
@@ -269,12 +269,12 @@ pub fn wrong_runs()
         (nine_show (65 ∷ []) (up_written (65 ∷ []) 0)) }
     // MakesRun.left: what was learned.
     ensures learns { ¬ WorldStep (nine_up (up_learned empty)) 9 (deed.Run 700)
-        (nine_up (up_learned (insert empty 700 (fortieth 65)))) }
+        (nine_up (up_learned (insert empty 700 (batch_40 65)))) }
     // MakesRun.left: the released bytes.
     ensures counts_on { ¬ WorldStep (nine_up (up_written (65 ∷ []) 0)) 9 (deed.Run 700)
         (nine_up (up_written (65 ∷ []) 1)) }
     // MakesRun.left: the keys that wait.
-    ensures drops_key { ¬ WorldStep (nine_up (up_waiting (ninth_key 40 65 ∷ []))) 9 (deed.Run 700)
+    ensures drops_key { ¬ WorldStep (nine_up (up_waiting (key_of_9 40 65 ∷ []))) 9 (deed.Run 700)
         (nine_up (up_waiting [])) }
     // MakesRun.moves.
     ensures writes { ¬ WorldStep (nine_up (up_written [] 0)) 9 (deed.Run 700)
@@ -294,8 +294,8 @@ pub fn wrong_reads()
         (nine_up (up_reading (insert empty 0 (Keys 9 3 40 (65 ∷ 66 ∷ 67 ∷ []))) 3)) }
     // MakesRun.moves: the input.
     ensures past_a_hole { ¬ WorldStep
-        (nine_up (up_reading (insert empty 700 (fortieth 65)) 0)) 9 (deed.Run 1)
-        (nine_up (up_reading (insert empty 700 (fortieth 65)) 1)) }
+        (nine_up (up_reading (insert empty 700 (batch_40 65)) 0)) 9 (deed.Run 1)
+        (nine_up (up_reading (insert empty 700 (batch_40 65)) 1)) }
 {
     step_is_transition();
     step_only_adds();
@@ -376,16 +376,16 @@ pub fn wrong_absences()
     ensures releases { ¬ WorldStep (nine_fell kept_third) 9 deed.Release (nine_fell kept_third) }
 {}
 
-/// Node 9, which has promised the ballot of node 7 and round 40, sends nothing that this does not
-/// allow: no value that it has not learned, no key that nobody typed, no Prepare for another node,
-/// no promise and no vote that it has not saved, and no refusal of a greater ballot.
+/// Node 9, which has promised the ballot of node 7 and round 40, sends nothing that its state does
+/// not allow: no value that it has not learned, no key that nobody typed, no Prepare under another
+/// node's ballot, no promise and no vote that it has not saved, and no refusal of a greater ballot.
 pub fn wrong_sends()
     // MakesCall.sends: what is learned.
     ensures tells_unlearned { ¬ WorldStep (nine_sent []) 9 deed.Tick
-        (nine_sent (sent_by_ninth (Tell 700 (fortieth 65)) ∷ [])) }
+        (nine_sent (sent_by_ninth (Tell 700 (batch_40 65)) ∷ [])) }
     // MakesCall.sends: the typed keys.
-    ensures submits_untyped { ¬ WorldStep (nine_submit (ninth_key 40 65 ∷ []) [] []) 9 deed.Tick
-        (nine_submit (ninth_key 40 65 ∷ []) [] (fortieth 65 ∷ [])) }
+    ensures submits_untyped { ¬ WorldStep (nine_submit (key_of_9 40 65 ∷ []) [] []) 9 deed.Tick
+        (nine_submit (key_of_9 40 65 ∷ []) [] (batch_40 65 ∷ [])) }
     // MakesCall.sends: the node.
     ensures prepares_for_another { ¬ WorldStep (nine_sent []) 9 deed.Tick
         (nine_sent (sent_by_ninth (Prepare (ballot_by 7 40) 700) ∷ [])) }
@@ -398,7 +398,7 @@ pub fn wrong_sends()
     // MakesCall.sends: the record.
     ensures accepts_unsaved { ¬ WorldStep (nine_sent seventh_proposes) 9 deed.Tick
         (nine_sent (seventh_proposes
-        ++ sent_by_ninth (Accepted (ballot_by 7 40) 700 (fortieth 65)) ∷ [])) }
+        ++ sent_by_ninth (Accepted (ballot_by 7 40) 700 (batch_40 65)) ∷ [])) }
 {}
 
 /// Steps that are right, one change away from wrong ones: a tick that changes nothing, and one at
@@ -407,18 +407,18 @@ pub fn wrong_sends()
 pub fn right_calls()
     ensures ticks { (up : Up) → WorldStep (nine_up up) 9 deed.Tick (nine_up up) }
     ensures key_leaves { WorldStep
-        (nine_up (up_as (insert empty 0 (fortieth 65)) [] 0
-        (ninth_key 40 65 ∷ ninth_key 41 66 ∷ []))) 9 deed.Tick
-        (nine_up (up_as (insert empty 0 (fortieth 65)) [] 0 (ninth_key 41 66 ∷ []))) }
+        (nine_up (up_as (insert empty 0 (batch_40 65)) [] 0
+        (key_of_9 40 65 ∷ key_of_9 41 66 ∷ []))) 9 deed.Tick
+        (nine_up (up_as (insert empty 0 (batch_40 65)) [] 0 (key_of_9 41 66 ∷ []))) }
     ensures types { WorldStep
-        (nine_type 40 (ninth_key 39 64 ∷ []) (ninth_key 39 64 ∷ [])) 9 (deed.Press 65)
-        (nine_type 41 (ninth_key 39 64 ∷ ninth_key 40 65 ∷ [])
-        (ninth_key 39 64 ∷ ninth_key 40 65 ∷ [])) }
+        (nine_type 40 (key_of_9 39 64 ∷ []) (key_of_9 39 64 ∷ [])) 9 (deed.Press 65)
+        (nine_type 41 (key_of_9 39 64 ∷ key_of_9 40 65 ∷ [])
+        (key_of_9 39 64 ∷ key_of_9 40 65 ∷ [])) }
     ensures submits { WorldStep (nine_submit both_keys both_keys []) 9 deed.Tick
         (nine_submit both_keys both_keys (Keys 9 3 40 (65 ∷ []) ∷ [])) }
     ensures promises { HearingLeaves (Prepare (ballot_by 5 41) 700) (kept_by 3 (ballot_by 5 41)) }
-    ensures votes { HearingLeaves (Accept (ballot_by 7 41) 700 (fortieth 65))
-        (kept_voted (fortieth 65)) }
+    ensures votes { HearingLeaves (Accept (ballot_by 7 41) 700 (batch_40 65))
+        (kept_voted (batch_40 65)) }
     ensures campaigns { WorldStep (nine_keep kept_third) 9 deed.Campaign
         (nine_keep (kept_by 3 (ballot_by 9 41))) }
 {}

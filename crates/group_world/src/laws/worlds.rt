@@ -28,8 +28,8 @@ use pcode_machine::laws::output_only_grows;
 /// one holds a prefix of the other.
 /// - No released byte comes too early for its console. If the console has shown a byte of that
 /// number, it is the same byte.
-/// - Each typed key is read once, and the keys of one start of one node are read in the order in
-/// which they were typed.
+/// - No key is read twice, and the keys of one start of one node are read in the order in which
+/// they were typed, with none left out between them.
 pub fn headline()
     ensures learned_agree { Always LearnedAgree }
     ensures learned_chosen { Always LearnedChosen }

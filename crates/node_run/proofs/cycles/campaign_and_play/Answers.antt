@@ -12,8 +12,8 @@ returns-in_err-campaign_if-clause-run g c =
       record {
         did = c.in_err-campaign_if.ensures.acts;
         why = c.in_err-campaign_if.ensures.others;
-        unmoved = c.in_err-campaign_if.ensures.progress;
-        stays = c.in_err-campaign_if.ensures.stays;
+        unmoved = c.in_err-campaign_if.ensures.output.progress;
+        stays = c.in_err-campaign_if.ensures.output.stays;
         untyped = refl;
         retries = refl;
         unwritten = refl;
@@ -26,8 +26,8 @@ returns-clause-run g c = inr (
   record {
     did = c.in_ok-campaign_if.ensures.acts;
     why = tt;
-    unmoved = c.in_ok-campaign_if.ensures.progress;
-    stays = c.in_ok-campaign_if.ensures.stays;
+    unmoved = c.in_ok-campaign_if.ensures.output.progress;
+    stays = c.in_ok-campaign_if.ensures.output.stays;
     untyped = refl;
     retries = refl;
     unwritten = refl;

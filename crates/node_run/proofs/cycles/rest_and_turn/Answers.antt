@@ -1,4 +1,4 @@
-use Rattle.std.proofs.Common.{◌≡◌, rules}
+use Rattle.std.proofs.Common.{◌≡◌, ◌∙◌, rules}
 use Rattle.group_protocol.specs.Known.{front}
 use Rattle.group_wire.specs.Turns.{SameReleased}
 use Rattle.std.proofs.lemmas.Result.{err_from_is_err_and}
@@ -31,7 +31,9 @@ pub returns-in_err-ran-clause-turns : goal.returns-in_err-ran-clause-turns
 returns-in_err-ran-clause-turns g c written =
     let p = err_from_is_err_and c.from_residual-in_err-ran.result c.from_residual-in_err-ran.ensures.1 in
     let begun : c.known_front-begun.result ≡ front c.args.host.now.protocol.known = search rules in
-    let stays : SameReleased c.args.host.now c.own_turn.new.host = cc in
+    let stays : SameReleased c.args.host.now c.own_turn.new.host =
+    c.in_err-ran.ensures.stays ∙ c.in_ok-answered.ensures.output.stays ∙ c.in_ok-retried.ensures.output.stays
+    ∙ c.in_ok-rest_unless_busy.ensures.output.stays in
     rw (p.1, p.2, ← c.in_ok-rest_unless_busy.ensures.retries)
     (turn_ended g.S.Store.kind written c.in_ok-rest_unless_busy.ensures.hears c.in_ok-rest_unless_busy.ensures.looks
     c.in_ok-retried.retried c.in_ok-retried.ensures.retried
@@ -40,7 +42,9 @@ returns-in_err-ran-clause-turns g c written =
 pub returns-clause-turns : goal.returns-clause-turns
 returns-clause-turns g c written =
     let begun : c.known_front-begun.result ≡ front c.args.host.now.protocol.known = search rules in
-    let stays : SameReleased c.args.host.now c.own_turn.new.host = cc in
+    let stays : SameReleased c.args.host.now c.own_turn.new.host =
+    c.in_ok-ran.ensures.stays ∙ c.in_ok-answered.ensures.output.stays ∙ c.in_ok-retried.ensures.output.stays
+    ∙ c.in_ok-rest_unless_busy.ensures.output.stays in
     rw (c.note_wire.ensures.passed, ← c.in_ok-rest_unless_busy.ensures.retries)
     (turned_once g.S.Store.kind written c.in_ok-rest_unless_busy.ensures.hears c.in_ok-rest_unless_busy.ensures.looks
     c.in_ok-retried.retried c.in_ok-retried.ensures.retried

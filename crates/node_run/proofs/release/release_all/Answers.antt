@@ -11,7 +11,7 @@ loop-number-preserved g c = record {
       c.in-Some.ensures.some c.in-Some.ensures.protocol c.in-Ok.ensures.unseen (λ low. (c.in-Ok.ensures.seen low).1);
   faults = c.in-Ok.ensures.faults ∙ c.loop-number.invariant.faults;
   acts = λ passed. c.deeds_go_on.ensures.more _ _ _ _ _ _ _ _ (c.loop-number.invariant.acts passed) (c.in-Some.ensures.acts passed);
-  passed = c.tell.ensures.passed ∙ c.loop-number.invariant.passed;
+  passed = c.trace.ensures.passed ∙ c.loop-number.invariant.passed;
 }
 
 pub returns-in-Err-clause-released : goal.returns-in-Err-clause-released

@@ -1,4 +1,4 @@
-use Rattle.std.proofs.Common.{arith, refl}
+use Rattle.std.proofs.Common.{◌∙◌, arith, refl}
 use Rattle.node_run.proofs.Cycling.{heard_more, heard_none, heard_last}
 use Rattle.node_run.proofs.Course.{gift_both, gift_none}
 use Rattle.node_run.proofs.rest.rest.Goals as goal
@@ -9,8 +9,7 @@ loop-init g c = record {
   hears = rw c.begin_rest.ensures.passed (heard_none c.deeds_go_on.ensures _ _);
   looks = gift_none _;
   retries = refl;
-  stays = refl;
-  progress = refl;
+  output = record { stays = refl; progress = refl };
 }
 
 pub loop-preserved : goal.loop-preserved
@@ -19,8 +18,10 @@ loop-preserved g c = record {
   hears = heard_more c.deeds_go_on.ensures c.loop.invariant.hears c.in-Ok-false.ensures.hears c.in-Ok-false.ensures.rests;
   looks = gift_both c.loop.invariant.looks c.in-Ok-false.ensures.looks;
   retries = grind arith;
-  stays = grind arith;
-  progress = grind arith;
+  output = record {
+    stays = c.in-Ok-false.ensures.output.stays ∙ c.loop.invariant.output.stays;
+    progress = c.in-Ok-false.ensures.output.progress ∙ c.loop.invariant.output.progress;
+  };
 }
 
 pub returns-in-Ok-true-clause-hears : goal.returns-in-Ok-true-clause-hears

@@ -1,6 +1,6 @@
 use Rattle.std.proofs.Common.{◌≡◌, [], false}
 use Rattle.node_io.specs.Prompts.{GivesWhatCame}
-use Rattle.group_wire.specs.Turns.{SameReleased}
+use Rattle.node_run.specs.Keeping.{KeepsOutput}
 use Rattle.node_run.proofs.Cycling.{HasHeardSome}
 use Rattle.node_run.proofs.rest.rest.Given as goal
 
@@ -13,6 +13,5 @@ invariant-loop g l = record {
       (g.T.Wire.traffic l.endpoints.wire);
   looks : GivesWhatCame (g.K.Keyboard.keys l.fn.endpoints.keyboard) [] (g.K.Keyboard.keys l.endpoints.keyboard);
   retries : l.endpoints.retries ≡ l.fn.endpoints.retries;
-  stays : SameReleased l.initial.host l.host;
-  progress : l.host.progress ≡ l.initial.host.progress;
+  output : KeepsOutput l.initial.host l.host;
 }

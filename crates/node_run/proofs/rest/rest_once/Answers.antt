@@ -9,8 +9,7 @@ returns-in-Ok g c = record {
   hears = rw c.ends_rest.ensures.passed (c.in-Ok.field-0, c.in-Ok.ensures.heard);
   looks = gift_none _;
   retries = search rules;
-  stays = search rules;
-  progress = search rules;
+  output = search rules;
 }
 
 pub returns-in-Ok-2 : goal.returns-in-Ok-2
@@ -20,8 +19,7 @@ returns-in-Ok-2 g c = record {
   hears = (c.in-Ok-2.field-0, c.in-Ok-2.ensures.heard);
   looks = gift_none _;
   retries = search rules;
-  stays = search rules;
-  progress = search rules;
+  output = search rules;
 }
 
 pub returns-in-Err-clause-looks : goal.returns-in-Err-clause-looks

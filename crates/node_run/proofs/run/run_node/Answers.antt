@@ -5,12 +5,12 @@ use Rattle.node_run.proofs.run.run_node.Goals as goal
 
 pub returns-in-Err-clause-ends : goal.returns-in-Err-clause-ends
 returns-in-Err-clause-ends g c =
-    rw (c.tell_end-done.ensures.same, c.tell_end-done.ensures.passed)
+    rw (c.trace_end-done.ensures.same, c.trace_end-done.ensures.passed)
     (inl (c.in-Err.field-0, c.in-Err.ensures.starts, search rules, refl, refl, search rules))
 
 pub returns-clause-ends : goal.returns-clause-ends
 returns-clause-ends g c =
-    rw (c.tell_end-done-2.ensures.same, c.tell_end-done-2.ensures.passed, c.into_store-store.ensures, ← c.tell.ensures.passed)
+    rw (c.trace_end-done-2.ensures.same, c.trace_end-done-2.ensures.passed, c.into_store-store.ensures, ← c.trace.ensures.passed)
     (inr (record {
       start = c.in-Ok.host;
       final = c.campaign_and_play-played.new.host;

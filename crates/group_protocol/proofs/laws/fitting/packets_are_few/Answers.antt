@@ -8,7 +8,7 @@ use Rattle.std.proofs.lemmas.Bool.Decides.{nat_tests}
 use Rattle.paxos_msg.specs.declared.value.Value.{Value}
 use Rattle.paxos_proposer.specs.Proposer.{Proposer}
 use Rattle.group_protocol.specs.Known.{Known}
-use Rattle.group_protocol.specs.ProposerRows.{offer_after}
+use Rattle.group_protocol.specs.ProposerResponses.{offer_after}
 use Rattle.group_protocol.specs.Tick.{accepts_again, asks, prepares_again}
 use Rattle.group_protocol.specs.Pump.{accepts_of, Proposals, pump}
 use Rattle.group_protocol.proofs.ByCases.{by_tick}

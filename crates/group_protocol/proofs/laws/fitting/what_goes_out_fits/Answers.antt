@@ -10,8 +10,8 @@ use Rattle.paxos_msg.specs.Ballots.{IsBelow}
 use Rattle.paxos_msg.specs.Batches.{Body}
 use Rattle.paxos_msg.specs.Fits.{IsBallot, AreBytes}
 use Rattle.group_protocol.specs.Known.{front, Known}
-use Rattle.group_protocol.specs.Protocol.{row}
-use Rattle.group_protocol.specs.ProposerRows.{next_ballot}
+use Rattle.group_protocol.specs.Protocol.{response_to}
+use Rattle.group_protocol.specs.ProposerResponses.{next_ballot}
 use Rattle.group_protocol.specs.Tick.{accepts_again, asks, prepares_again}
 use Rattle.group_protocol.specs.Packets.{to_all}
 use Rattle.group_protocol.specs.Pump.{accepts_of, pump}
@@ -25,15 +25,16 @@ push_bytes : (bytes : List ℕ) (byte : ℕ) → AreBytes bytes → byte < 256 �
 push_bytes bytes byte h low i = grind (arith, nat_tests, length_push, cases_lt, get_or_append_left, cases_eq, get_or_push, get_or_past)
 
 -- a message, before the waiting keys below the front leave
-row_fits : goal.After-window_holds → (n : Known) (j : ℕ) (body : Body) → IsInRange n → IsHeardFit n.me j body → IsFit n.me (row n j body)
-row_fits c n j (Prepare b from) = c.rows_fit.ensures.prepare n j from b
-row_fits c n j (Promise b first upto votes) = c.rows_fit.ensures.promise n j first upto b votes
-row_fits c n j (Accept b s v) = c.rows_fit.ensures.accept n j s b v
-row_fits c n j (Accepted b s v) = c.rows_fit.ensures.accepted n j s b v
-row_fits c n j (Refused b promised) = λ h heard. c.rows_fit.ensures.refused n b promised h
-row_fits c n j (Submit v) = c.rows_fit.ensures.submit n j v
-row_fits c n j (Ask from) = λ h heard. c.rows_fit.ensures.ask n j from h
-row_fits c n j (Tell s v) = c.rows_fit.ensures.tell n j s v
+response_fits : goal.After-window_holds → (n : Known) (j : ℕ) (body : Body) → IsInRange n → IsHeardFit n.me j body
+    → IsFit n.me (response_to n j body)
+response_fits c n j (Prepare b from) = c.responses_fit.ensures.prepare n j from b
+response_fits c n j (Promise b first upto votes) = c.responses_fit.ensures.promise n j first upto b votes
+response_fits c n j (Accept b s v) = c.responses_fit.ensures.accept n j s b v
+response_fits c n j (Accepted b s v) = c.responses_fit.ensures.accepted n j s b v
+response_fits c n j (Refused b promised) = λ h heard. c.responses_fit.ensures.refused n b promised h
+response_fits c n j (Submit v) = c.responses_fit.ensures.submit n j v
+response_fits c n j (Ask from) = λ h heard. c.responses_fit.ensures.ask n j from h
+response_fits c n j (Tell s v) = c.responses_fit.ensures.tell n j s v
 
 pub returns : goal.returns
 returns c = record {
@@ -68,6 +69,6 @@ returns c = record {
       let after = All-append (IsPacketFit n.me) (accepts_of (pump 16 p).made) (asks n) pumped.sends asked in
       record { same = refl; ranges = grind (arith, nat_tests, pumped.own); sends = All-append (IsPacketFit n.me) _ _ before after });
   message = λ n j body h heard.
-      let f = row_fits c n j body h heard in
-      record { same = f.same; ranges = c.rows_fit.ensures.gone (row n j body).node f.ranges; sends = f.sends };
+      let f = response_fits c n j body h heard in
+      record { same = f.same; ranges = c.responses_fit.ensures.gone (response_to n j body).node f.ranges; sends = f.sends };
 }

@@ -15,8 +15,8 @@ use Rattle.paxos_msg.specs.Records.{MaySave}
 use Rattle.group_protocol.specs.Backs.{Backs}
 use Rattle.group_protocol.specs.Known.{front, Known, new_key, on_start, own_batch}
 use Rattle.group_protocol.specs.Packets.{Packet, to_all}
-use Rattle.group_protocol.specs.Protocol.{on_message, row}
-use Rattle.group_protocol.specs.ProposerRows.{next_ballot, on_campaign}
+use Rattle.group_protocol.specs.Protocol.{on_message, response_to}
+use Rattle.group_protocol.specs.ProposerResponses.{next_ballot, on_campaign}
 use Rattle.group_protocol.specs.Pump.{accepts_of, pump}
 use Rattle.group_protocol.specs.Steps.{IsLawful}
 use Rattle.group_protocol.specs.Tick.{accepts_again, asks, prepares_again}
@@ -110,8 +110,8 @@ returns c = record {
       let last = stable_goes laws.sending _ typed next (asks n) pumped.backs (asks_stable _ typed next pumped.backs) in
       led_lawful n.offered h (rw (append_assoc before made (asks n)) at (goes_on laws.sending pumped last)));
   message = λ sent typed n j body ranges h delivered.
-      let f = c.rows_are_lawful.ensures sent typed n j body ranges h delivered in
+      let f = c.responses_are_lawful.ensures sent typed n j body ranges h delivered in
       let waiting : (k : Key) → Contains (waiting_keys (on_message n j body).node) k → Contains typed k =
-      λ k has. f.backs.waiting k (last_keys _ _ _ (count_gone (row n j body).node) _ k has) in
+      λ k has. f.backs.waiting k (last_keys _ _ _ (count_gone (response_to n j body).node) _ k has) in
       grind (arith, nat_tests, f, waiting);
 }

@@ -1,7 +1,7 @@
 -- The keys that are still to come decide whether all of them are known.
 use Rattle.std.proofs.Common.{◌≡◌, ◌+◌, drop}
 use Rattle.paxos_msg.specs.Keys.{keys_from}
-use Rattle.group_protocol.specs.ProposerRows.{are_known}
+use Rattle.group_protocol.specs.ProposerResponses.{are_known}
 use Rattle.group_protocol.proofs.protocol.Protocol.are_known.Given as goal
 
 abbrev pub invariant-loop-byte : goal.invariant-loop-byte

@@ -1,5 +1,5 @@
 use Rattle.std.proofs.Common.{◌+◌, ◌-◌, ◌≤◌, length}
-use Rattle.group_protocol.specs.LearnerRows.{tell_packet}
+use Rattle.group_protocol.specs.LearnerResponses.{tell_packet}
 use Rattle.group_protocol.proofs.Places.{ArePut}
 use Rattle.group_protocol.proofs.protocol.Protocol.on_ask.Given as goal
 

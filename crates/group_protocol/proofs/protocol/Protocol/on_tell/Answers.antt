@@ -7,7 +7,7 @@ invariant_of-self-2 g c =
     let i = c.self.invariant in
     let value : IsValue c.self.inside.me.group.size c.args.value = rw (← c.self.view_is) at c.requires.value in
     let fits =
-    c.rows_fit.ensures.tell _ c.self.inside.me.node c.args.place c.args.value i.1.ranges
+    c.responses_fit.ensures.tell _ c.self.inside.me.node c.args.place c.args.value i.1.ranges
     (i.1.ranges.me.node, (c.requires.place, value)) in (
       i.0,
       record {

@@ -24,7 +24,7 @@ asked : {n : Known} {now : List Datagram} {batch : Option Value} {from : ℕ} (m
     → batch ≡ batch_of n n.waiting → from ≡ front n → now ≡ mid ++ datagrams_of n.me (asks n)
 asked mid h is same here = grind (arith, nat_tests)
 
--- the node with such a proposer is in its ranges, since that of the row is
+-- the node with such a proposer is in its ranges, since that of the response is
 ticked_ranges : {n : Known} {p q : Proposer} → IsInRange n → IsInRange (on_tick n).node → n.proposer ≡ Some p
     → q ≡ (pump 16 p).proposer → IsInRange (record n { proposer = Some q })
 ticked_ranges h fits e one = grind (arith, nat_tests)

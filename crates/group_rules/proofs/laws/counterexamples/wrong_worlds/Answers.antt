@@ -8,7 +8,7 @@ use Rattle.pcode_machine.specs.Runs.{after_steps}
 use Rattle.group_node.specs.Inputs.{AreChosen}
 use Rattle.group_rules.specs.WrongSteps.{ballot_by}
 use Rattle.group_protocol.proofs.Elements.{none_in}
-use Rattle.group_rules.specs.WrongWorlds.{chosen, key, not_chosen, silent}
+use Rattle.group_rules.specs.Counterexamples.{chosen, key, not_chosen, silent}
 use Rattle.group_rules.proofs.SmallPrograms.{stays, written_by}
 use Rattle.group_rules.proofs.WrittenVotes.{are_chosen, chosen_by, has_learned, not_chosen as none_chosen, not_row}
 use Rattle.group_rules.proofs.laws.counterexamples.wrong_worlds.Goals as goal

@@ -18,8 +18,8 @@ use Rattle.group_protocol.specs.Known.{Known, Response, new_key, next_serial, on
 use Rattle.group_protocol.specs.WaitingKeys.{waiting_keys, without_read}
 use Rattle.paxos_learner.specs.Input.{front_values, keys_in_order}
 use Rattle.group_protocol.specs.Packets.{bodies_of}
-use Rattle.group_protocol.specs.Protocol.{on_message, row}
-use Rattle.group_protocol.specs.ProposerRows.{on_campaign, next_ballot}
+use Rattle.group_protocol.specs.Protocol.{on_message, response_to}
+use Rattle.group_protocol.specs.ProposerResponses.{on_campaign, next_ballot}
 use Rattle.group_protocol.specs.Ranges.{IsInRange}
 use Rattle.group_protocol.specs.Steps.{IsLawfulCall, IsSavedBy}
 use Rattle.group_protocol.specs.Tick.{on_tick}
@@ -52,16 +52,16 @@ same_size : ((l : Learner) (i s : ℕ) (b : Ballot) (v : Value) → (heard_accep
 same_size accepted told n j body = grind (arith, nat_tests, accepted, told)
 
 -- keys that are read leave after a message, from the front
-row_waits : (n : Known) (j : ℕ) (body : Body) → waiting_keys (row n j body).node ≡ waiting_keys n
-row_waits n j body = grind (arith, nat_tests)
+response_waits : (n : Known) (j : ℕ) (body : Body) → waiting_keys (response_to n j body).node ≡ waiting_keys n
+response_waits n j body = grind (arith, nat_tests)
 
 message_parts : ((m : Known) → (gone : List Key) × (waiting_keys m ≡ gone ++ waiting_keys (without_read m))
     × All (λ k. Contains (keys_in_order (front_values m.learner.learned)) k) gone)
     → (n : Known) (j : ℕ) (body : Body)
     → AreParted (on_message n j body).node.learner.learned (waiting_keys n) (waiting_keys (on_message n j body).node)
 message_parts leave n j body =
-    let (gone, parts, below) = leave (row n j body).node in
-    record { gone = gone; parts = sym (row_waits n j body) ∙ parts; below = below }
+    let (gone, parts, below) = leave (response_to n j body).node in
+    record { gone = gone; parts = sym (response_waits n j body) ∙ parts; below = below }
 
 -- keys that all stay
 all_stay : {learned : FinMap nat_cmp Value} {keys stay : List Key} → stay ≡ keys → AreParted learned keys stay

@@ -2,8 +2,8 @@ use Rattle.std.proofs.Common.{ℕ, List, [], ◌∷◌, refl, arith, lit<}
 use Rattle.paxos_msg.specs.declared.value.Value.{Value}
 use Rattle.paxos_msg.specs.Batches.{Sent}
 use Rattle.group_node.specs.Inputs.{AreChosen}
-use Rattle.group_rules.specs.WrongSteps.{ballot_by, ninth_key}
-use Rattle.group_rules.specs.WrongGroups.{chosen_three}
+use Rattle.group_rules.specs.WrongSteps.{ballot_by, key_of_9}
+use Rattle.group_rules.specs.FarCounterexamples.{chosen_three}
 use Rattle.group_rules.proofs.WrittenVotes.{are_chosen, chosen_by, not_row}
 use Rattle.group_rules.proofs.laws.far_counterexamples.wrong_keys.Goals as goal
 
@@ -18,7 +18,7 @@ three_chosen a b c =
 
 pub returns : goal.returns
 returns c = record {
-  serial_twice = λ h. h _ (three_chosen _ _ _) 1 2 (ninth_key 40 65) (omega arith) (omega arith)
+  serial_twice = λ h. h _ (three_chosen _ _ _) 1 2 (key_of_9 40 65) (omega arith) (omega arith)
       (record { node = refl; start = refl; serial = refl });
   fortieth_first = λ h. not_row (λ e. grind arith) (h _ (three_chosen _ _ _) 9 3);
   second_first = λ h. not_row (λ e. grind arith) (h _ (three_chosen _ _ _) 9 3);

@@ -12,7 +12,7 @@ use Rattle.paxos_msg.specs.Messages.{messages_of}
 use Rattle.group_node.specs.Deeds as deed
 use Rattle.group_protocol.proofs.Elements.{first_in}
 use Rattle.group_rules.specs.Rules.{Seat, WorldStep}
-use Rattle.group_rules.specs.WrongSteps.{both_keys, nine_submit, ninth_key, up_waiting}
+use Rattle.group_rules.specs.WrongSteps.{both_keys, nine_submit, key_of_9, up_waiting}
 use Rattle.group_rules.proofs.laws.key_steps.wrong_batches.Goals as goal
 
 -- the one message of a call is of its one body
@@ -33,4 +33,4 @@ returns-clause-second_alone c h =
 
 pub returns-clause-one_that_left : goal.returns-clause-one_that_left
 returns-clause-one_that_left c h =
-    let begins = front_sent (ninth_key 41 66 ∷ []) both_keys (Keys 9 3 40 (65 ∷ [])) h in grind (arith, nat_tests, begins.whole)
+    let begins = front_sent (key_of_9 41 66 ∷ []) both_keys (Keys 9 3 40 (65 ∷ [])) h in grind (arith, nat_tests, begins.whole)

@@ -16,7 +16,7 @@ use Rattle.group_rules.specs.Rules.{MakesCall, Up}
 use Rattle.group_rules.proofs.ChainedSteps.{submits_one, typed_by}
 use Rattle.paxos_msg.specs.declared.message.Body.TheVariants.{Submit}
 use Rattle.paxos_msg.specs.declared.value.Value.TheVariants.{Keys}
-use Rattle.group_rules.specs.WrongSteps.{ballot_by, both_keys, fortieth, kept_third, nine, ninth_key, seat_up, up_as, up_learned, up_next, up_waiting}
+use Rattle.group_rules.specs.WrongSteps.{ballot_by, both_keys, batch_40, kept_third, nine, key_of_9, seat_up, up_as, up_learned, up_next, up_waiting}
 use Rattle.group_protocol.proofs.Elements.{entries_one, none_in}
 use Rattle.group_rules.proofs.laws.steps.right_calls.Goals as goal
 
@@ -58,22 +58,22 @@ saves sent c may = calls (up_learned empty) sent [] (Some c) [] [] [] 1 refl may
 
 -- the first of two keys is read at the place 0
 abbrev one : FinMap nat_cmp Value
-one = insert empty 0 (fortieth 65)
+one = insert empty 0 (batch_40 65)
 
 pub returns : goal.returns
 returns c = record {
   ticks = λ up. calls up [] [] None [] [] up.waiting up.next (omega arith) tt (append-nil up.waiting) tt;
   key_leaves =
-      calls (up_as one [] 0 both_keys) [] [] None [] (ninth_key 40 65 ∷ []) (ninth_key 41 66 ∷ []) 1 refl tt refl
-      (rw (entries_one 0 (fortieth 65), get_here empty 0 (fortieth 65)) (0, omega arith, refl), tt);
+      calls (up_as one [] 0 both_keys) [] [] None [] (key_of_9 40 65 ∷ []) (key_of_9 41 66 ∷ []) 1 refl tt refl
+      (rw (entries_one 0 (batch_40 65), get_here empty 0 (batch_40 65)) (0, omega arith, refl), tt);
   types = record {
-    key = ninth_key 40 65;
+    key = key_of_9 40 65;
     node = refl;
     start = refl;
     character = refl;
     serial = refl;
-    call = calls (up_next 40 (ninth_key 39 64 ∷ [])) [] (ninth_key 39 64 ∷ []) None (ninth_key 40 65 ∷ []) []
-        (ninth_key 39 64 ∷ ninth_key 40 65 ∷ []) 41 refl tt refl tt;
+    call = calls (up_next 40 (key_of_9 39 64 ∷ [])) [] (key_of_9 39 64 ∷ []) None (key_of_9 40 65 ∷ []) []
+        (key_of_9 39 64 ∷ key_of_9 40 65 ∷ []) 41 refl tt refl tt;
   };
   submits = record {
     bodies = Submit (Keys 9 3 40 (65 ∷ [])) ∷ [];
@@ -91,7 +91,7 @@ returns c = record {
       released = refl;
       waiting = record { gone = []; parts = refl; below = λ i d below. absurd (omega arith) };
     };
-    submits = submits_one both_keys (Keys 9 3 40 (65 ∷ [])) (record { rest = ninth_key 41 66 ∷ []; whole = refl });
+    submits = submits_one both_keys (Keys 9 3 40 (65 ∷ [])) (record { rest = key_of_9 41 66 ∷ []; whole = refl });
     next = refl;
   };
   promises = record {
@@ -102,9 +102,9 @@ returns c = record {
   };
   votes = record {
     is_sent = (1, omega arith, refl);
-    saved = Some (change.Ballotted 700 (ballot_by 7 41) (fortieth 65));
+    saved = Some (change.Ballotted 700 (ballot_by 7 41) (batch_40 65));
     cause = inr refl;
-    call = inl (saves _ (change.Ballotted 700 (ballot_by 7 41) (fortieth 65)) ((7, (0, omega arith, refl)), inl (omega arith)));
+    call = inl (saves _ (change.Ballotted 700 (ballot_by 7 41) (batch_40 65)) ((7, (0, omega arith, refl)), inl (omega arith)));
   };
   campaigns = record { round = 41; call = inl (saves [] (change.Promise (ballot_by 9 41)) (inl (omega arith))) };
 }

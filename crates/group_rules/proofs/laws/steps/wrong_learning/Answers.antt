@@ -9,7 +9,7 @@ use Rattle.paxos_msg.specs.Keys.{Key}
 use Rattle.paxos_learner.proofs.OnePlace.{get_here}
 use Rattle.paxos_learner.specs.Input.{front_values, keys_in_order}
 use Rattle.group_rules.specs.Rules.{LearnsOnly, MakesCall, Up, WorldState}
-use Rattle.group_rules.specs.WrongSteps.{fortieth, four_accepted, kept_third, nine, nine_up, seat_up, up_as, up_learned}
+use Rattle.group_rules.specs.WrongSteps.{batch_40, four_accepted, kept_third, nine, nine_up, seat_up, up_as, up_learned}
 use Rattle.group_protocol.proofs.Elements.{entries_none, entries_one, minority, none_in}
 use Rattle.group_rules.proofs.laws.steps.wrong_learning.Goals as goal
 
@@ -38,13 +38,13 @@ tick_stays learned none keys stay h =
 
 -- node 9 has learned this where four of nine nodes, no majority, have accepted a value
 abbrev four_sent : FinMap nat_cmp Value → WorldState
-four_sent learned = nine (seat_up kept_third [] (up_learned learned)) (four_accepted (fortieth 65)) []
+four_sent learned = nine (seat_up kept_third [] (up_learned learned)) (four_accepted (batch_40 65)) []
 
 pub returns-clause-learns_by_four : goal.returns-clause-learns_by_four
 returns-clause-learns_by_four c h =
-    let learned : FinMap nat_cmp Value = insert empty 700 (fortieth 65) in
+    let learned : FinMap nat_cmp Value = insert empty 700 (batch_40 65) in
     let learns = call_learns (four_sent empty) (four_sent learned) (up_learned empty) (up_learned learned) h refl refl in
-    elim (learns.gains 700 (fortieth 65) (get_here empty 700 (fortieth 65))) [
+    elim (learns.gains 700 (batch_40 65) (get_here empty 700 (batch_40 65))) [
       | inl old ↦ cc (get-empty {X = Value} nat_cmp 700)
       | inr (inl (i, among)) ↦ grind (arith, nat_tests)
       | inr (inr (b, (members, majority, each))) ↦
@@ -53,7 +53,7 @@ returns-clause-learns_by_four c h =
     ]
 
 pub returns-clause-forgets : goal.returns-clause-forgets
-returns-clause-forgets c h = grind (arith, get-empty {X = Value} nat_cmp 700, get_here empty 700 (fortieth 65))
+returns-clause-forgets c h = grind (arith, get-empty {X = Value} nat_cmp 700, get_here empty 700 (batch_40 65))
 
 -- nothing is read where nothing is learned, or what is learned is above a hole
 pub returns-clause-leaves_unread : goal.returns-clause-leaves_unread
@@ -61,4 +61,4 @@ returns-clause-leaves_unread c h = let same = tick_stays empty (rw entries_none 
 
 pub returns-clause-leaves_above_a_hole : goal.returns-clause-leaves_above_a_hole
 returns-clause-leaves_above_a_hole c h =
-    let same = tick_stays (insert empty 700 (fortieth 65)) (rw (entries_one 700 (fortieth 65)) refl) _ [] h in cc
+    let same = tick_stays (insert empty 700 (batch_40 65)) (rw (entries_one 700 (batch_40 65)) refl) _ [] h in cc

@@ -9,7 +9,7 @@ use Rattle.paxos_msg.specs.declared.value.Value.TheVariants.{Keys}
 use Rattle.paxos_learner.proofs.OnePlace.{get_here}
 use Rattle.paxos_learner.specs.Input.{learned_input}
 use Rattle.group_rules.specs.Rules.{MakesSteps}
-use Rattle.group_rules.specs.WrongSteps.{fortieth, main_frame, no_code, reads_on, up_reading}
+use Rattle.group_rules.specs.WrongSteps.{batch_40, main_frame, no_code, reads_on, up_reading}
 use Rattle.group_protocol.proofs.Elements.{entries_one}
 use Rattle.group_rules.proofs.RunSteps.{run_moves, stuck}
 use Rattle.group_rules.proofs.laws.steps.wrong_reads.Goals as goal
@@ -19,7 +19,7 @@ abbrev three : FinMap nat_cmp Value
 three = insert empty 0 (Keys 9 3 40 (65 ∷ 66 ∷ 67 ∷ []))
 
 abbrev above : FinMap nat_cmp Value
-above = insert empty 700 (fortieth 65)
+above = insert empty 700 (batch_40 65)
 
 -- a pending read waits at an empty input
 no_byte : (x : List ℕ) → x ≡ [] → (d : Configuration) → ¬ Step no_code x (reads_on 0) d
@@ -65,6 +65,6 @@ returns-clause-too_far c h =
 pub returns-clause-past_a_hole : goal.returns-clause-past_a_hole
 returns-clause-past_a_hole c h =
     let (made, few, moves) = run_moves (up_reading above 0) (up_reading above 1) 1 h in
-    let none : learned_input above ≡ [] = rw (entries_one 700 (fortieth 65)) refl in
+    let none : learned_input above ≡ [] = rw (entries_one 700 (batch_40 65)) refl in
     let same = ap (λ (c : Configuration). c.read) (stuck _ (reads_on 0) (no_byte _ none) made (reads_on 1) moves) in
     omega arith

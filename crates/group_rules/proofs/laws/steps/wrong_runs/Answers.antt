@@ -6,7 +6,7 @@ use Rattle.pcode_machine.specs.Step.{Step}
 use Rattle.paxos_msg.specs.declared.value.Value.{Value}
 use Rattle.paxos_learner.proofs.OnePlace.{get_here}
 use Rattle.paxos_learner.specs.Input.{learned_input}
-use Rattle.group_rules.specs.WrongSteps.{fortieth, no_code, up_written}
+use Rattle.group_rules.specs.WrongSteps.{batch_40, no_code, up_written}
 use Rattle.group_rules.proofs.RunSteps.{run_moves, stuck}
 use Rattle.group_rules.proofs.laws.steps.wrong_runs.Goals as goal
 
@@ -15,7 +15,7 @@ no_frame : (x : List ℕ) (d : Configuration) → ¬ Step no_code x (configurati
 no_frame x d (f, there, acts) = let none : None ≡ Some f = there in cc
 
 pub returns-clause-learns : goal.returns-clause-learns
-returns-clause-learns c h = grind (arith, get-empty {X = Value} nat_cmp 700, get_here empty 700 (fortieth 65))
+returns-clause-learns c h = grind (arith, get-empty {X = Value} nat_cmp 700, get_here empty 700 (batch_40 65))
 
 pub returns-clause-writes : goal.returns-clause-writes
 returns-clause-writes c h =

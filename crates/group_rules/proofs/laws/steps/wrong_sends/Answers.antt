@@ -9,7 +9,7 @@ use Rattle.paxos_msg.specs.Batches.{Sent, Body, MaySend, MaySendAll}
 use Rattle.paxos_msg.specs.Messages.{messages_of}
 use Rattle.group_node.specs.Deeds as deed
 use Rattle.group_rules.specs.Rules.{Seat, WorldStep}
-use Rattle.group_rules.specs.WrongSteps.{ballot_by, fortieth, kept_third, nine_sent, ninth_key, sent_by_ninth, seventh_proposes, up_learned, up_waiting}
+use Rattle.group_rules.specs.WrongSteps.{ballot_by, batch_40, kept_third, nine_sent, key_of_9, sent_by_ninth, seventh_proposes, up_learned, up_waiting}
 use Rattle.group_rules.proofs.laws.steps.wrong_sends.Goals as goal
 
 -- what node 9 has learned, which is nothing
@@ -31,14 +31,14 @@ one_sent sent body h =
 pub returns : goal.returns
 returns c = record {
   tells_unlearned = λ h.
-      let there = one_sent [] (Tell 700 (fortieth 65)) h in cc (get-empty {X = Value} nat_cmp 700);
+      let there = one_sent [] (Tell 700 (batch_40 65)) h in cc (get-empty {X = Value} nat_cmp 700);
   submits_untyped = λ h.
-      let same = same_Some h.now (up_waiting (ninth_key 40 65 ∷ [])) (sym (ap (λ (s : Seat). s.up) h.left)) in
-      let may = first_sent [] (Submit (fortieth 65)) h.bodies (append_cancel_left [] _ _ h.rest.sent) (rw same at h.sends) in
-      let (k, low, at) = may.known (ninth_key 40 65) (0, omega arith, refl) in
+      let same = same_Some h.now (up_waiting (key_of_9 40 65 ∷ [])) (sym (ap (λ (s : Seat). s.up) h.left)) in
+      let may = first_sent [] (Submit (batch_40 65)) h.bodies (append_cancel_left [] _ _ h.rest.sent) (rw same at h.sends) in
+      let (k, low, at) = may.known (key_of_9 40 65) (0, omega arith, refl) in
       omega arith;
   prepares_for_another = λ h. let same = (one_sent [] (Prepare (ballot_by 7 40) 700) h).0 in omega arith;
   promises_unsaved = λ h. let promised = one_sent [] (Promise (ballot_by 5 41) 700 701 []) h in grind arith;
   refuses_greater = λ h. let below = (one_sent [] (Refused (ballot_by 7 41) (ballot_by 7 40)) h).1 in grind (arith, below);
-  accepts_unsaved = λ h. let none = (one_sent seventh_proposes (Accepted (ballot_by 7 40) 700 (fortieth 65)) h).1 in cc;
+  accepts_unsaved = λ h. let none = (one_sent seventh_proposes (Accepted (ballot_by 7 40) 700 (batch_40 65)) h).1 in cc;
 }

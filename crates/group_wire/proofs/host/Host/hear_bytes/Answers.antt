@@ -19,10 +19,10 @@ returns-in_err-unless_memory-clause-hears g c from came =
     let done = c.in-Err.ensures.responds in
     rw (← c.self.view_is)
     (refuses_one g.S.Store.kind _ _ _ c.in-Ok.view c.in-Err.fault _ c.self.invariant.0 (search rules)
-    done.sends.does.err c.on_message.ensures.responds.sends.progress (c.tell.ensures.passed ∙ came) (search rules)
+    done.sends.does.err c.on_message.ensures.responds.sends.progress (c.trace.ensures.passed ∙ came) (search rules)
     (λ is_store none. done.saves.never none (ap Err is_store))
     (λ honest is_store. done.saves.device honest (ap Err is_store))
-    (λ honest is_store. done.saves.left honest (was_open done.sends.let_in (ap Err is_store))))
+    (λ honest is_store. done.saves.left honest (was_open done.sends.admitted (ap Err is_store))))
 
 pub returns-in_err-unless_memory-clause-refused : goal.returns-in_err-unless_memory-clause-refused
 returns-in_err-unless_memory-clause-refused g c =
@@ -34,8 +34,8 @@ returns-in-Err-clause-hears g c from came =
     rw (← c.self.view_is)
     (hears_none g.S.Store.kind _ _ _ (Loses c.in-Ok.view) Lost c.self.invariant.0 (search rules)
     (c.in-Err.ensures.needs (ap Err c.in_ok-unless_memory.ensures.memory)) refl
-    (_, refl, refl, refl) (λ stopped. absurd (cc (done.sends.let_in.stopped.1 stopped, c.in_ok-unless_memory.ensures.memory)))
-    done.sends.does.err c.on_message.ensures.responds.sends.progress (c.tell.ensures.passed ∙ came))
+    (_, refl, refl, refl) (λ stopped. absurd (cc (done.sends.admitted.stopped.1 stopped, c.in_ok-unless_memory.ensures.memory)))
+    done.sends.does.err c.on_message.ensures.responds.sends.progress (c.trace.ensures.passed ∙ came))
 
 pub returns-in-Err-clause-refused : goal.returns-in-Err-clause-refused
 returns-in-Err-clause-refused g c =
@@ -48,9 +48,9 @@ returns-clause-hears g c from came =
     (rw c.self.invariant.0 c.in-Ok.ensures.found.fits) in
     rw (← c.self.view_is)
     (hears_one g.S.Store.kind _ _ _ _ c.in-Ok.view _ _ c.self.invariant.0 (search rules)
-    (λ stopped. absurd (cc (done.sends.let_in.stopped.1 stopped))) done.sends.does.ok fit.same
+    (λ stopped. absurd (cc (done.sends.admitted.stopped.1 stopped))) done.sends.does.ok fit.same
     c.on_message.ensures.responds.sends.progress c.self.invariant.1
-    done.sends.does.sends c.send_all.ensures.traffic (c.tell-2.ensures.passed ∙ c.tell.ensures.passed ∙ came))
+    done.sends.does.sends c.send_all.ensures.traffic (c.trace-2.ensures.passed ∙ c.trace.ensures.passed ∙ came))
 
 pub returns-clause-refused : goal.returns-clause-refused
 returns-clause-refused g c =

@@ -11,7 +11,7 @@ returns g c =
         came = hears.0;
         ending = hears.1;
         plays = turn_is {ticks = is_made c.in_ok-tick.tick} {mid = c.hear_all.new.self} _ hears.2
-            (rw c.run.ensures.protocol c.in_ok-tick.ensures.known) (c.tell.ensures.passed ∙ c.in_ok-tick.ensures.traffic);
+            (rw c.run.ensures.protocol c.in_ok-tick.ensures.known) (c.trace.ensures.passed ∙ c.in_ok-tick.ensures.traffic);
         hears = record { few = hears.3.few; ended = hears.3.ended; fault = search rules };
         due = search rules;
         lost = hears.4;

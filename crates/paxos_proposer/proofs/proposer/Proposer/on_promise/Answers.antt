@@ -1,6 +1,6 @@
 -- What is kept is from the next place on, as before.
 use Rattle.std.proofs.Common.{◌≡◌, ◌+◌, arith, length, rules}
-use Rattle.paxos_proposer.proofs.Passing.{ahead_heard}
+use Rattle.paxos_proposer.proofs.PassedVotes.{ahead_heard}
 use Rattle.paxos_proposer.proofs.proposer.Proposer.on_promise.Goals as goal
 
 pub invariant_of-self-2 : goal.invariant_of-self-2
