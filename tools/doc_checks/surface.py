@@ -31,7 +31,7 @@ MODULE = re.compile(r"^(?:pub(?:\(\w+\))? )?mod (\w+);", re.M)
 # A public item of a module, and one of an `impl` or a trait, as rt fmt indents them.
 PUBLIC = re.compile(r"^pub (?!\().*", re.M)
 ITEM = re.compile(r"^pub (?:(?:const|unsafe) (?=fn ))?(\w+) (\w+)", re.M)
-MEMBER = re.compile(r"^    (pub )?(?:(?:const|unsafe) (?=fn ))?(const|fn|type) (\w+)", re.M)
+MEMBER = re.compile(r"^    (pub )?(?:(?:const|final|unsafe) (?=fn ))?(const|fn|type) (\w+)", re.M)
 # Where the part of an item ends that is listed.
 ENDS = {
     "fn": {"requires", "ensures", "ghost", "{", ";"}, "const": {"=", ";"}, "static": {"=", ";"},

@@ -64,7 +64,8 @@ written = record {
   wrote = 65 ∷ [];
   lost = [];
   whole = letter_output last.known;
-  one = λ f. absurd cc;
+  some = λ f. absurd cc;
+  few = omega arith;
   none = λ _. refl;
   appended = refl;
 }

@@ -3,9 +3,7 @@ use Rattle.std.proofs.Common.{◌≡◌, ◌∙◌, inl, inr, ℕ, zero, suc, �
 use Rattle.std.proofs.Common.{List, [], ◌∷◌, ◌++◌, take, drop, get_or, length, Result, Ok, Err, IsErr}
 use Rattle.std.specs.Prelude.{codes}
 use Rattle.std.specs.List.{flat_map}
-use Rattle.std.specs.Io.KnownBytes.{Keeps}
-use Rattle.base.specs.Faults.{HasRisen}
-use Rattle.std.proofs.KnownBytes.{Appends-trans, Appends-kept}
+use Rattle.std.proofs.KnownBytes.{Appends-trans}
 use Rattle.std.proofs.lemmas.Bool.{cases_lt}
 use Rattle.std.proofs.lemmas.Grind.{common_steps, flat_map-append}
 use Rattle.std.proofs.lemmas.List.{take-append-drop, take_more}
@@ -20,11 +18,6 @@ both-written p q = record { bytes = Appends-trans _ _ _ _ _ p.bytes q.bytes; fau
 -- and so are a text and a front of another one
 pub front-after : {old mid new : Held} {a b : List ℕ} → AppendsText old mid a → AppendsFront mid new b → AppendsFront old new (a ++ b)
 front-after {a = a} p q = grind (arith, append_assoc, a ++ q.front, q.rest, Appends-trans _ _ _ _ _ p.bytes q.bytes)
-
--- the first bytes of a text were written, and then a write failed
-pub cut-at : {old mid new : Held} (text : List ℕ) (i : ℕ) → AppendsText old mid (take i text) → Keeps mid.bytes new.bytes
-    → HasRisen mid.faults new.faults → AppendsFront old new text
-cut-at text i p kept risen = grind (arith, take-append-drop i text, Appends-kept _ _ _ _ p.bytes kept)
 
 -- ---- one text after another
 

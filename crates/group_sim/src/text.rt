@@ -7,14 +7,11 @@ ghost use Rattle.group_sim.specs.Texts.{PutsText};
 use digits::hex_digits;
 use machine_run::{ByteWriter, WriteFault};
 
-/// Writes a text, byte by byte.
+/// Writes a text.
 pub fn put<W: ByteWriter>(writer: &mut W, text: &[u8]) -> Result<(), WriteFault>
     ensures { PutsText W.contents W.write_faults writer result text.now }
 {
-    for &byte in text {
-        writer.write_byte(byte)?;
-    }
-    Ok(())
+    writer.write_bytes(text)
 }
 
 /// Writes a number in decimal digits.

@@ -1,5 +1,5 @@
 -- What is known of a reader and a writer, what moved, and which faults of theirs were counted.
-use Rattle.std.specs.Prelude.{◌≡◌, ℕ, ◌==◌, Bool, true, false, if◌then◌else◌, List, Option, Some, None, Result, Ok, Err}
+use Rattle.std.specs.Prelude.{◌≡◌, ℕ, ◌<◌, ◌==◌, Bool, true, false, if◌then◌else◌, List, ◌++◌, length, Option, Some, None, Result, Ok, Err}
 use Rattle.std.specs.Io.KnownBytes.{Appends, Consumes}
 use Rattle.std.specs.IoError.{error_kind}
 use Rattle.std.specs.declared.io.Error.{Error}
@@ -28,12 +28,22 @@ bytes_read_of (Err e) = if is_interrupted (error_kind e) then None else Some (Er
 abbrev pub byte_found_of : ℕ → ℕ → Option ℕ
 byte_found_of n byte = if n == 0 then None else Some byte
 
--- Whether a call of `write` for one byte has written it or failed. It is `None` if the call is made
+-- How many bytes a call of `write` has written, or that it failed. It is `None` if the call is made
 -- again. A call that took nothing has failed.
 -- Forbids: a failed write that is made again.
-abbrev pub byte_written_of : Result ℕ Error → Option (Result (Unit {0}) WriteFault)
-byte_written_of (Ok n) = if n == 1 then Some (Ok tt) else Some (Err (record {}))
-byte_written_of (Err e) = if is_interrupted (error_kind e) then None else Some (Err (record {}))
+abbrev pub bytes_written_of : Result ℕ Error → Option (Result ℕ WriteFault)
+bytes_written_of (Ok n) = if n == 0 then Some (Err (record {})) else Some (Ok n)
+bytes_written_of (Err e) = if is_interrupted (error_kind e) then None else Some (Err (record {}))
+
+-- A write of these bytes that has failed: none or some first ones of them were written, and the
+-- others were not.
+-- Forbids: a byte that is written behind one that is not; a failure after the last byte.
+pub record WritesPart (from to : Option (List ℕ)) (bytes : List ℕ) : Type 0 where
+  pub wrote : List ℕ
+  pub lost : List ℕ
+  pub parts : bytes ≡ wrote ++ lost
+  pub some : 0 < length lost
+  pub appended : Appends from to wrote
 
 -- ---- what is known of streams
 

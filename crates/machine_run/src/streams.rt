@@ -1,15 +1,15 @@
-//! Readers and writers of single bytes, which count their faults.
+//! Readers of single bytes and writers of bytes, which count their faults.
 //!
 //! The contracts of std's `Read` and `Write` cannot say that a call failed, so no clause can say
 //! that a fault was really met. These two traits count faults. The wrapper `Counting` makes one of
 //! any `Read` or `Write`. What the answer of a call means, private functions with exact contracts
 //! say; that each call of `Counting` makes one call and takes its answer is what its lines show.
-ghost use Rattle.std.specs.Prelude.{◌≡◌, ℕ, List, [], ◌∷◌, ◌≤◌, length, IfOk, Option, IsNone, MatchResult};
+ghost use Rattle.std.specs.Prelude.{◌≡◌, ℕ, List, [], ◌∷◌, ◌<◌, ◌≤◌, length, IfOk, Option, IsNone, MatchResult};
 ghost use Rattle.std.specs.Option.{option_to_list};
-ghost use Rattle.std.specs.Io.KnownBytes.{Keeps, Appends, Consumes, IsAtEnd, ReadConsumes};
+ghost use Rattle.std.specs.Io.KnownBytes.{Keeps, Appends, Consumes, IsAtEnd, ReadConsumes, WriteAppends};
 ghost use Rattle.std.specs.IoError.{error_kind};
 ghost use Rattle.base.specs.Faults.{CountsFault, HasRisen};
-ghost use Rattle.machine_run.specs.Streams.{byte_found_of, byte_written_of, bytes_read_of, is_interrupted};
+ghost use Rattle.machine_run.specs.Streams.{WritesPart, byte_found_of, bytes_read_of, bytes_written_of, is_interrupted};
 
 use base::count_fault;
 use std::io::{self, ErrorKind, Read, Write};
@@ -50,17 +50,28 @@ pub trait ByteWriter {
     /// The number of its writes that failed or took nothing.
     ghost write_faults: { Self → ℕ };
 
-    /// Appends `byte` to what the writer holds. A call that fails appends nothing and counts one
-    /// more fault. No other call counts one.
+    /// Appends `bytes` to what the writer holds. A call that fails appends none or some first ones
+    /// of them, but never all (`WritesPart`), and counts one more fault. No other call counts one.
     ///
     /// A write that takes nothing is a failed one.
-    fn write_byte(&mut self, byte: u8) -> Result<(), WriteFault>
+    fn write_bytes(&mut self, bytes: &[u8]) -> Result<(), WriteFault>
+        ensures bytes { MatchResult result
+            (λ _. Appends (contents self.old) (contents self.new) bytes.now)
+            (λ _. WritesPart (contents self.old) (contents self.new) bytes.now) }
+        ensures faults { CountsFault (write_faults self.old) (write_faults self.new) result };
+
+    /// Appends `byte` to what the writer holds. A call that fails appends nothing and counts one
+    /// more fault. No other call counts one.
+    final fn write_byte(&mut self, byte: u8) -> Result<(), WriteFault>
         ensures bytes { MatchResult result
             (λ _. Appends (contents self.old) (contents self.new) (byte ∷ []))
             (λ _. Keeps (contents self.old) (contents self.new)) }
         ensures faults { MatchResult result
             (λ _. write_faults self.new ≡ write_faults self.old)
-            (λ _. HasRisen (write_faults self.old) (write_faults self.new)) };
+            (λ _. HasRisen (write_faults self.old) (write_faults self.new)) }
+    {
+        self.write_bytes(&[byte])
+    }
 }
 
 /// A reader or a writer, and the number of its faults, up to `u64::MAX`. It is a `ByteReader` if
@@ -100,14 +111,14 @@ fn bytes_read(answer: io::Result<usize>) -> Option<Result<usize, ReadFault>>
     }
 }
 
-/// What the answer of a call of `write` for one byte means: that the byte is written, or that the
-/// call failed, as it has if it took nothing. `None` means that it is made again.
-fn byte_written(answer: io::Result<usize>) -> Option<Result<(), WriteFault>>
-    ensures { result ≡ byte_written_of answer }
+/// What the answer of a call of `write` means: how many bytes it has written, or that it failed, as
+/// it has if it took nothing. `None` means that a signal interrupted it, so that it is made again.
+fn bytes_written(answer: io::Result<usize>) -> Option<Result<usize, WriteFault>>
+    ensures { result ≡ bytes_written_of answer }
 {
     match answer {
-        Ok(1) => Some(Ok(())),
-        Ok(_) => Some(Err(WriteFault)),
+        Ok(0) => Some(Err(WriteFault)),
+        Ok(written) => Some(Ok(written)),
         Err(fault) if was_interrupted(&fault) => None,
         Err(_) => Some(Err(WriteFault)),
     }
@@ -154,20 +165,37 @@ pub(crate) fn read_some<R: Read>(
     counted(Err(ReadFault), faults)
 }
 
-/// Writes a byte, again if a signal interrupted a write.
-fn put_byte<W: Write>(writer: &mut W, faults: &mut u64, byte: u8) -> Result<(), WriteFault>
-    ensures bytes { MatchResult result
-        (λ _. Appends (W.contents writer.old) (W.contents writer.new) (byte ∷ []))
-        (λ _. Keeps (W.contents writer.old) (W.contents writer.new)) }
+/// Writes some first bytes of `bytes`, again if a signal interrupted a write, and returns how many:
+/// at least one. A call that fails writes none and counts one more fault. No other call counts one.
+fn write_some<W: Write>(writer: &mut W, faults: &mut u64, bytes: &[u8]) -> Result<usize, WriteFault>
+    ensures some { IfOk result (λ n. 0 < n) }
+    ensures fits { IfOk result (λ n. n ≤ length bytes.now) }
+    ensures bytes { WriteAppends (W.contents writer.old) (W.contents writer.new) result bytes.now }
     ensures faults { CountsFault faults.old faults.new result }
 {
     for _ in 0..u64::MAX {
-        let answer = writer.write(&[byte]);
-        if let Some(written) = byte_written(answer) {
+        let answer = writer.write(bytes);
+        if let Some(written) = bytes_written(answer) {
             return counted(written, faults);
         }
     }
     counted(Err(WriteFault), faults)
+}
+
+/// Writes all bytes, by as few writes as the writer allows. A call that fails writes none or some
+/// first ones of them, but never all, and counts one more fault. No other call counts one.
+fn write_all<W: Write>(writer: &mut W, faults: &mut u64, bytes: &[u8]) -> Result<(), WriteFault>
+    ensures bytes { MatchResult result
+        (λ _. Appends (W.contents writer.old) (W.contents writer.new) bytes.now)
+        (λ _. WritesPart (W.contents writer.old) (W.contents writer.new) bytes.now) }
+    ensures faults { CountsFault faults.old faults.new result }
+{
+    let mut rest = bytes;
+    while !rest.is_empty() {
+        let n = write_some(writer, faults, rest)?;
+        rest = &rest[n..];
+    }
+    Ok(())
 }
 
 impl<R: Read> ByteReader for Counting<R> {
@@ -187,7 +215,7 @@ impl<W: Write> ByteWriter for Counting<W> {
 
     ghost write_faults = { λ w. w.faults };
 
-    fn write_byte(&mut self, byte: u8) -> Result<(), WriteFault> {
-        put_byte(&mut self.inner, &mut self.faults, byte)
+    fn write_bytes(&mut self, bytes: &[u8]) -> Result<(), WriteFault> {
+        write_all(&mut self.inner, &mut self.faults, bytes)
     }
 }

@@ -1,18 +1,18 @@
 -- Calls of a node, one after the other: their deeds, and what it was prompted to do.
-use Rattle.std.proofs.Common.{◌≡◌, ◌≢◌, ◌∙◌, zero-add, ◌⊎◌, inl, inr, Bool, true, ℕ, ◌+◌, ◌*◌, ◌<◌, ◌≤◌, List, [], ◌∷◌, ◌++◌, drop, length, min, take, map, Option, Some, None, Result, Ok, Err, refl, sym, ap, arith, append_assoc, append-nil}
+use Rattle.std.proofs.Common.{◌≡◌, ◌≢◌, ◌∙◌, zero-add, ◌⊎◌, inl, inr, Bool, true, ℕ, ◌+◌, ◌*◌, ◌≤◌, List, [], ◌∷◌, ◌++◌, drop, length, min, take, map, Option, Some, None, Result, Ok, Err, refl, sym, ap, arith, append_assoc, append-nil}
 use Rattle.std.proofs.Math.Seq.{drop-append_seam, take-append_seam}
 use Rattle.std.proofs.lemmas.Grind.{common_steps, flat_map-append}
 use Rattle.std.proofs.lemmas.List.{drop_all, length-append, take-append-drop}
 use Rattle.std.proofs.lemmas.List.Elements.{filter-append}
 use Rattle.paxos_acceptor.specs.Stores.{StoreKind}
-use Rattle.group_node.specs.Deeds.{Deed, Press, Run}
+use Rattle.group_node.specs.Deeds.{Deed, Press}
 use Rattle.group_node.specs.States.{NodeState}
 use Rattle.group_wire.specs.Doings.{Fails, HasActed}
 use Rattle.group_wire.specs.Traffic.{Traffic}
 use Rattle.group_protocol.specs.declared.fault.NodeFault.TheVariants.{SerialSpent, Store}
 use Rattle.node_io.specs.declared.fault.GroupFault.{GroupFault}
 use Rattle.node_io.specs.declared.fault.GroupFault.TheVariants as group
-use Rattle.node_run.specs.Course.{Surroundings, CampaignsIf, FailsAt, HasEnded, MadeTurnsOrEnded, HasMadeTurns, HasReason, around, planned}
+use Rattle.node_run.specs.Course.{Surroundings, CampaignsIf, FailsAt, HasEnded, HasMadeTurns, HasReason, around, planned}
 use Rattle.node_io.specs.Refusals.{IsCampaignRefusal}
 use Rattle.node_io.specs.Prompts.{GivesWhatCame, HasGiven, KeyboardState, Remaining, before_gift, byte_in, campaigns_in, bytes_in, no_keys, taken_more, with_more}
 use Rattle.node_run.specs.Answering.{left_once_given}
@@ -233,6 +233,15 @@ pub gone_ended : {S : Type 0} {kind : StoreKind S} {first : List Deed} {old new 
 gone_ended h other due = grind (arith, h.gift, h.prompts)
 
 -- ---- after a campaign of the plan
+
+-- what a node did, by the answer: so many turns at `Ok`, and at most so many up to a refusal; where its campaign does not begin it
+-- has done nothing
+abbrev pub MadeTurnsOrEnded : {S T : Type 0} → StoreKind S → List Deed → NodeState S → NodeState S
+    → Surroundings → Surroundings → ℕ → Result T GroupFault → Type 0
+MadeTurnsOrEnded kind first old new from to turns (Ok x) = HasMadeTurns first old new from to turns
+MadeTurnsOrEnded kind first old new from to turns (Err e) =
+    ((done : ℕ) × (done ≤ turns) × HasEnded kind first old new from to done e)
+    ⊎ ((e ≢ group.Node Store) × IsCampaignRefusal e × HasEnded kind [] old new from to 0 e)
 
 -- the cycles after it, by their answer
 pub begun_by : {S : Type 0} {kind : StoreKind S} (laws : GoOn kind) {old mid : NodeState S} {t u : Option Traffic} {first : List Deed}

@@ -1,30 +1,26 @@
 -- The cycles of a run as deeds of its node, and what they write.
-use Rattle.std.proofs.Common.{◌≡◌, ◌≢◌, ◌∙◌, ◌≤◌, ◌<◌, ◌+◌, ◌⊎◌, ◌↔◌, ℕ, zero, suc, true, List, [], ◌∷◌, Option, IfErr, IsErrOf, OnOk, Result, Ok, Err, inl, inr, refl, sym, ap, subst, arith}
+use Rattle.std.proofs.Common.{◌≡◌, ◌∙◌, ◌≤◌, ◌+◌, ℕ, zero, suc, true, [], ◌∷◌, IfErr, IsErrOf, OnOk, Result, Ok, Err, inl, inr, refl, sym, subst, arith}
 use Rattle.std.proofs.lemmas.Grind.{common_steps}
 use Rattle.std.proofs.lemmas.List.{drop_all}
 use Rattle.paxos_acceptor.specs.Stores.{StoreKind}
 use Rattle.pcode_file.specs.Parts.{Parts}
-use Rattle.group_protocol.specs.declared.fault.NodeFault.TheVariants.{SerialSpent, Store}
-use Rattle.group_node.specs.Deeds.{Campaign, Run}
-use Rattle.group_node.specs.Output.{IsReplay, no_progress}
-use Rattle.group_node.specs.States.{NodeState, input}
+use Rattle.group_node.specs.Deeds.{Run}
+use Rattle.group_node.specs.Output.{no_progress}
+use Rattle.group_node.specs.States.{NodeState}
 use Rattle.group_wire.specs.declared.answers.Turned.{Turned}
 use Rattle.node_io.specs.declared.fault.GroupFault.{GroupFault}
-use Rattle.node_io.specs.declared.fault.GroupFault.TheVariants as group
 use Rattle.node_io.specs.Refusals.{IsCampaignRefusal, IsCycleRefusal, IsWrittenCycleRefusal, write_failed}
 use Rattle.node_run.specs.declared.answering.Answered.{Answered}
 use Rattle.node_run.specs.declared.answering.Answered.TheVariants.{Bytes, Campaigned, CampaignRefused, Ignored}
 use Rattle.node_run.specs.declared.cycles.RunPlan.{RunPlan}
 use Rattle.node_run.specs.declared.retries.Retried.{Retried}
 use Rattle.node_run.specs.Answering.{AnswersWhatCame, HasAnsweredKeyboard}
-use Rattle.node_run.specs.Cycles.{AnswersKeyboard, AreCycles, Begins, CampaignsAgain, DoesCycles, EndsAtKeyboard, EndsAtRest, EndsAtRetry, EndsAtTurn, EndsBeforeRelease, EndsInCycle, IsCycle, IsRun, ReleasesOutput, Rests, RunMoment, TakesTurn, IsCycleUpToRelease}
-use Rattle.node_run.specs.Course.{Surroundings, HasEnded, MadeTurnsOrEnded, HasMadeTurns, around, planned}
-use Rattle.node_run.specs.Output.{AppendsOutput, NoneWaits}
-use Rattle.node_run.specs.Releases.{WritesAll}
+use Rattle.node_run.specs.Cycles.{AnswersKeyboard, AreCycles, CampaignsAgain, DoesCycles, EndsAtRest, EndsAtTurn, EndsBeforeRelease, EndsInCycle, IsCycle, IsRun, ReleasesOutput, Rests, RunMoment, TakesTurn, IsCycleUpToRelease}
+use Rattle.node_run.specs.Course.{Surroundings, HasEnded, HasMadeTurns, around, planned}
 use Rattle.node_run.specs.Runs.{IsEarlyEnd}
-use Rattle.node_run.proofs.Course.{GoOn, begun_by, campaign_refused, ended_then, gift_both, gift_none, gives_now, gone_ended, gone_then, prompted, prompted_none, save_ended}
+use Rattle.node_run.proofs.Course.{GoOn, MadeTurnsOrEnded, begun_by, campaign_refused, ended_then, gift_both, gift_none, gives_now, gone_ended, gone_then, prompted, prompted_none, save_ended}
 use Rattle.node_run.proofs.KeyboardAnswers.{answered_on, retried_on, retry_ended}
-use Rattle.node_run.proofs.Writing.{none_at_start, wrote_all, wrote_but_one, wrote_none, wrote_then}
+use Rattle.node_run.proofs.Writing.{AppendsOutput, NoneWaits, none_at_start, wrote_all, wrote_part, wrote_none, wrote_then}
 
 -- ---- deeds
 
@@ -172,7 +168,7 @@ module _ {S : Type 0} (kind : StoreKind S) (seen : ℕ) where
   cycle_ended a b e (inr (mid, once, release)) =
       subst (λ c. AppendsOutput seen a.node b.node (IsErrOf {T = Unit {0}} (Err e) write_failed) c b.written)
       (unwritten_once once)
-      (wrote_but_one a.node _ release.did.0 once.stays once.turns.replay (rw release.did.1 refl))
+      (wrote_part a.node _ release.did.0 once.stays once.turns.replay (rw release.did.1 refl))
 
   cycles_write : (n : ℕ) (a b : RunMoment S) → AreCycles kind seen n a b → Writes seen a b (Ok tt)
   cycles_write zero a b is = rw is (wrote_none seen a.node a.node _ a.written (λ f. absurd cc) refl)

@@ -1,16 +1,18 @@
--- Bytes that are released one after the other, and what is written or shown of them.
-use Rattle.std.proofs.Common.{◌≡◌, ℕ, ◌+◌, ◌-◌, ◌<◌, ◌≤◌, List, [], ◌∷◌, ◌++◌, drop, length, Option, Some, None, option_map, slice_get, arith}
+-- Bytes that are released one after the other, and those of them that were not seen.
+use Rattle.std.proofs.Common.{◌≡◌, ℕ, ◌+◌, ◌-◌, ◌<◌, ◌≤◌, List, [], ◌∷◌, ◌++◌, drop, length, Option, Some, None, option_map, slice_get, refl, ◌∙◌, arith}
 use Rattle.std.proofs.Math.Seq.{take-add, take-append_seam}
 use Rattle.std.proofs.lemmas.Grind.{common_steps}
 use Rattle.std.proofs.lemmas.List.{drop-append-le, drop-drop, drop_all}
 use Rattle.std.proofs.lemmas.Option.{slice_get_cases}
-use Rattle.std.specs.Io.KnownBytes.{Appends, Keeps}
-use Rattle.std.proofs.KnownBytes.{Appends-kept, Appends-nil, Appends-trans}
 use Rattle.group_node.specs.Output.{Progress, unreleased_of}
-use Rattle.group_node.specs.States.{input}
+use Rattle.group_node.specs.States.{NodeState, input}
 use Rattle.group_wire.specs.Turns.{released_of}
-use Rattle.node_run.specs.Output.{ReleasesBytes}
-use Rattle.node_run.specs.Releases.{LosesOutput, NodeMoment, WritesAll}
+use Rattle.node_run.specs.Output.{all_released, unreleased_from}
+
+-- a release of these bytes, the first of those that waited
+pub record ReleasesBytes (x : List ℕ) (old new : Progress) (gone : List ℕ) : Type 0 where
+  pub waited : unreleased_of x old ≡ gone ++ unreleased_of x new
+  pub progress : new ≡ record old { released = old.released + length gone }
 
 -- the first byte that waits, with its number
 abbrev pub next_of : List ℕ → Progress → Option (ℕ × ℕ)
@@ -21,48 +23,44 @@ pub released_on : (x : List ℕ) (old new : Progress) (gone : List ℕ) → Rele
     → released_of x new ≡ released_of x old ++ gone
 released_on x old new gone h = grind (arith, common_steps, take-add, take-append_seam)
 
--- ---- the loop that writes
+-- ---- the loop that releases
 
--- some bytes were released, and those of them that were not seen are written
-pub record WritesSome {S : Type 0} (seen : ℕ) (old new : NodeMoment S) : Type 0 where
+-- some bytes were released, and these are those of them that were not seen
+pub record TakesSome {S : Type 0} (seen : ℕ) (old new : NodeState S) (unseen : List ℕ) : Type 0 where
   pub gone : List ℕ
-  pub released : ReleasesBytes (input old.node.protocol.known) old.node.progress new.node.progress gone
-  pub appended : Appends old.written new.written (drop (seen - old.node.progress.released) gone)
-  pub protocol : new.node.protocol ≡ old.node.protocol
+  pub released : ReleasesBytes (input old.protocol.known) old.progress new.progress gone
+  pub kept : unseen ≡ drop (seen - old.progress.released) gone
+  pub protocol : new.protocol ≡ old.protocol
 
-pub writes_none : {S : Type 0} (seen : ℕ) (old : NodeMoment S) → WritesSome seen old old
-writes_none seen old = grind (arith, common_steps, drop_all, Appends-nil)
+pub takes_none : {S : Type 0} (seen : ℕ) (old : NodeState S) → TakesSome seen old old []
+takes_none seen old = record {
+  gone = [];
+  released = grind (arith, common_steps);
+  kept = grind (arith, common_steps, drop_all);
+  protocol = refl;
+}
 
--- one byte more is written, unless it was seen
-appends_unseen : (c d e : Option (List ℕ)) (seen k byte : ℕ) (gone : List ℕ) → Appends c d (drop (seen - k) gone)
-    → (seen ≤ k + length gone → Appends d e (byte ∷ [])) → (k + length gone < seen → e ≡ d)
-    → Appends c e (drop (seen - k) (gone ++ byte ∷ []))
-appends_unseen c d e seen k byte gone before more none = grind (arith, common_steps, drop_all, drop-append-le, Appends-trans)
-
-module _ {S : Type 0} (seen number byte : ℕ) (first old new : NodeMoment S) (h : WritesSome seen first old)
-    (next : Some (number, byte) ≡ next_of (input old.node.protocol.known) old.node.progress)
-    (more : new.node.progress ≡ record old.node.progress { released = old.node.progress.released + 1 })
-    (protocol : new.node.protocol ≡ old.node.protocol) where
+module _ {S : Type 0} (seen number byte : ℕ) (first old new : NodeState S) {unseen : List ℕ} (h : TakesSome seen first old unseen)
+    (next : Some (number, byte) ≡ next_of (input old.protocol.known) old.progress)
+    (more : new.progress ≡ record old.progress { released = old.progress.released + 1 })
+    (protocol : new.protocol ≡ old.protocol) where
   -- it is released
-  released_next : ReleasesBytes (input first.node.protocol.known) first.node.progress new.node.progress (h.gone ++ byte ∷ [])
-      × (number ≡ first.node.progress.released + length h.gone)
+  released_next : ReleasesBytes (input first.protocol.known) first.progress new.progress (h.gone ++ byte ∷ [])
+      × (number ≡ first.progress.released + length h.gone)
   released_next = grind (arith, common_steps, drop-drop, slice_get_cases, h.released)
 
-  pub writes_more : (seen ≤ number → Appends old.written new.written (byte ∷ [])) → (number < seen → new.written ≡ old.written)
-      → WritesSome seen first new
-  writes_more unseen none =
-      grind (
-        arith,
-        h.gone ++ byte ∷ [],
-        released_next,
-        appends_unseen first.written old.written new.written seen first.node.progress.released byte h.gone h.appended,
-      )
-
-  -- the byte that could not be written
-  pub loses_next : (number < seen → ⊥) → (seen ≤ number → Keeps old.written new.written) → LosesOutput seen first new
-  loses_next written unseen = grind (arith, h.gone, byte, released_next, h.appended, Appends-kept)
+  pub takes_more : {now : List ℕ} → (seen ≤ number → now ≡ unseen ++ byte ∷ []) → (number < seen → now ≡ unseen)
+      → TakesSome seen first new now
+  takes_more is not = record {
+    gone = h.gone ++ byte ∷ [];
+    released = released_next.0;
+    kept = grind (arith, common_steps, drop_all, drop-append-le, released_next.1, h.kept);
+    protocol = protocol ∙ h.protocol;
+  }
 
 -- once nothing waits
-pub writes_all : {S : Type 0} (seen : ℕ) (old new : NodeMoment S) → WritesSome seen old new
-    → None ≡ next_of (input new.node.protocol.known) new.node.progress → WritesAll seen old new
-writes_all seen old new h none = grind (arith, common_steps, slice_get_cases)
+pub takes_all : {S : Type 0} (seen : ℕ) (old new : NodeState S) {unseen : List ℕ} → TakesSome seen old new unseen
+    → None ≡ next_of (input new.protocol.known) new.progress
+    → (new.progress ≡ all_released (input old.protocol.known) old.progress)
+    × (unseen ≡ unreleased_from seen (input old.protocol.known) old.progress)
+takes_all seen old new h none = grind (arith, common_steps, slice_get_cases)

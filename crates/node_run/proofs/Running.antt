@@ -1,5 +1,5 @@
 -- A whole run of a node, by its answer.
-use Rattle.std.proofs.Common.{◌≡◌, ◌∙◌, inl, inr, ℕ, List, Option, IfErr, IsErrOf, OnOk, Result, Ok, Err, refl, sym, ap, subst, arith, ◌≢◌, ◌⊎◌, ◌≤◌, [], false}
+use Rattle.std.proofs.Common.{◌≡◌, ◌∙◌, inl, inr, ℕ, List, Option, IsErrOf, Result, Ok, Err, refl, sym, ap, subst, arith, ◌≢◌, ◌⊎◌, ◌≤◌, [], false}
 use Rattle.std.proofs.lemmas.Grind.{common_steps}
 use Rattle.std.proofs.lemmas.List.{drop_all}
 use Rattle.pcode_file.specs.Parts.{Parts}
@@ -15,13 +15,13 @@ use Rattle.group_node.specs.Deeds.{Deed}
 use Rattle.node_io.specs.declared.fault.GroupFault.{GroupFault}
 use Rattle.node_io.specs.declared.fault.GroupFault.TheVariants as group
 use Rattle.node_run.specs.declared.cycles.RunPlan.{RunPlan}
-use Rattle.node_run.specs.Course.{Surroundings, HasEnded, MadeTurnsOrEnded, planned}
-use Rattle.node_run.specs.Output.{AppendsOutput}
+use Rattle.node_run.specs.Course.{Surroundings, HasEnded, planned}
 use Rattle.node_io.specs.Refusals.{IsCampaignRefusal, write_failed}
 use Rattle.node_run.specs.Cycles.{IsRun, RunMoment, run_moment}
-use Rattle.node_run.specs.Runs.{IsEarlyEnd, RunsInCycles, RunsNode, WritesReleased}
+use Rattle.node_run.specs.Runs.{RunsInCycles, RunsNode, WritesReleased}
 use Rattle.node_run.proofs.CycleDeeds.{early_end, none_waits_after, run_goes, run_writes}
-use Rattle.node_run.proofs.Course.{GoOn, is_store, prompted_if}
+use Rattle.node_run.proofs.Course.{GoOn, MadeTurnsOrEnded, is_store, prompted_if}
+use Rattle.node_run.proofs.Writing.{AppendsOutput}
 use Rattle.node_run.proofs.Starting.{me_is, ran_on, ran_out}
 
 -- what was written from a start on

@@ -1,6 +1,6 @@
 -- What is no part of a cycle: a keyboard that is passed over, and output that is left.
-use Rattle.std.proofs.Common.{◌≡◌, ◌+◌, ◌-◌, ◌^◌, ◌<◌, ◌∙◌, ℕ, List, [], ◌∷◌, ◌++◌, Ok, drop, length, refl, sym, ap, subst, arith}
-use Rattle.std.proofs.lemmas.List.{length-append, length-drop}
+use Rattle.std.proofs.Common.{◌≡◌, ◌+◌, ◌^◌, ◌<◌, ◌∙◌, ℕ, List, [], ◌∷◌, Ok, length, sym, ap, subst, arith}
+use Rattle.std.proofs.lemmas.List.{length-drop}
 use Rattle.paxos_acceptor.specs.Stores.{StoreKind}
 use Rattle.group_protocol.specs.declared.limits.TheConstants.{MOST_WAITING}
 use Rattle.group_node.specs.declared.player.Ran.{Ran}

@@ -1,5 +1,5 @@
 -- What a node does between its start and its end: its deeds, and what it is prompted to do.
-use Rattle.std.specs.Prelude.{◌≡◌, ◌≢◌, ◌≤◌, ◌+◌, ◌⊎◌, ℕ, Bool, true, false, List, [], ◌∷◌, ◌++◌, Option, Result, Ok, Err}
+use Rattle.std.specs.Prelude.{◌≡◌, ◌≢◌, ◌+◌, ℕ, Bool, true, false, List, [], ◌∷◌, ◌++◌, Option, Result, Ok, Err}
 use Rattle.paxos_acceptor.specs.Stores.{StoreKind}
 use Rattle.group_protocol.specs.declared.fault.NodeFault.TheVariants.{PlacesSpent, RoundsSpent, SerialSpent, Store}
 use Rattle.group_node.specs.Deeds.{Campaign, Deed}
@@ -11,7 +11,6 @@ use Rattle.group_wire.specs.Doings.{Fails, HasActed}
 use Rattle.group_wire.specs.Traffic.{Traffic}
 use Rattle.node_io.specs.declared.fault.GroupFault.{GroupFault}
 use Rattle.node_io.specs.declared.fault.GroupFault.TheVariants as group
-use Rattle.node_io.specs.Refusals.{IsCampaignRefusal}
 use Rattle.node_io.specs.Prompts.{GivesWhatCame, KeyboardState}
 use Rattle.node_run.specs.Prompted.{IsPrompted}
 use Rattle.node_run.specs.declared.endpoints.Endpoints.{Endpoints}
@@ -70,15 +69,6 @@ pub record HasEnded {S : Type 0} (kind : StoreKind S) (first : List Deed) (old n
   pub prompted : IsPrompted gift turns from.retries to.retries (e ≡ group.Node SerialSpent)
       prompts
   pub due : HasReason e new.protocol.known
-
--- What a node did, by the answer: so many turns at `Ok`, and at most so many up to a refusal. Where
--- its campaign does not begin it has done nothing.
-abbrev pub MadeTurnsOrEnded : {S T : Type 0} → StoreKind S → List Deed → NodeState S → NodeState S
-    → Surroundings → Surroundings → ℕ → Result T GroupFault → Type 0
-MadeTurnsOrEnded kind first old new from to turns (Ok x) = HasMadeTurns first old new from to turns
-MadeTurnsOrEnded kind first old new from to turns (Err e) =
-    ((done : ℕ) × (done ≤ turns) × HasEnded kind first old new from to done e)
-    ⊎ ((e ≢ group.Node Store) × IsCampaignRefusal e × HasEnded kind [] old new from to 0 e)
 
 -- A call that is refused only because a save of the node fails now: then these are the prompts.
 pub record FailsAt {S : Type 0} (kind : StoreKind S) (old new : NodeState S)

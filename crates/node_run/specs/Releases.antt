@@ -1,10 +1,11 @@
 -- The release of a node's output to a writer.
-use Rattle.std.specs.Prelude.{◌≡◌, ℕ, ◌+◌, ◌-◌, ◌≤◌, List, [], ◌∷◌, ◌++◌, drop, length, Option, Result, Ok, Err}
+use Rattle.std.specs.Prelude.{◌≡◌, ℕ, List, Option, Result, Ok, Err}
 use Rattle.std.specs.Io.KnownBytes.{Appends}
 use Rattle.group_node.specs.States.{NodeState, input}
+use Rattle.machine_run.specs.Streams.{WritesPart}
 use Rattle.node_io.specs.declared.fault.GroupFault.{GroupFault}
-use Rattle.node_run.specs.Output.{ReleasesBytes, all_released, unreleased_from}
 use Rattle.node_io.specs.Refusals.{write_failed}
+use Rattle.node_run.specs.Output.{all_released, unreleased_from}
 
 -- A moment of a node: the node, and what its writer holds, where that is known.
 pub record NodeMoment (S : Type 0) : Type 0 where
@@ -20,20 +21,17 @@ pub record WritesAll {S : Type 0} (seen : ℕ) (old new : NodeMoment S) : Type 0
       (input old.node.protocol.known) old.node.progress)
   pub protocol : new.node.protocol ≡ old.node.protocol
 
--- A release that a failed write ends: the bytes before that one are released, and written if they
--- were not seen; that one is released, and lost.
+-- A release at which a write fails: all output that waits is released. None or some first bytes of
+-- those that were not seen are written, and the others are lost.
+-- Forbids: a failure where nothing is lost.
 pub record LosesOutput {S : Type 0} (seen : ℕ) (old new : NodeMoment S) : Type 0 where
-  pub gone : List ℕ
-  pub byte : ℕ
-  pub released : ReleasesBytes
-      (input old.node.protocol.known) old.node.progress new.node.progress
-      (gone ++ byte ∷ [])
-  pub unseen : seen ≤ old.node.progress.released + length gone
-  pub appended : Appends old.written new.written (drop
-      (seen - old.node.progress.released) gone)
+  pub progress : new.node.progress ≡ all_released
+      (input old.node.protocol.known) old.node.progress
+  pub wrote : WritesPart old.written new.written (unreleased_from seen
+      (input old.node.protocol.known) old.node.progress)
   pub protocol : new.node.protocol ≡ old.node.protocol
 
--- A release of all output, which only a failed write ends early.
+-- A release of all output, with its answer: it is refused exactly if a write failed.
 abbrev pub HasReleased : {S : Type 0} → ℕ → NodeMoment S → NodeMoment S
     → Result (Unit {0}) GroupFault → Type 0
 HasReleased seen old new (Ok x) = WritesAll seen old new

@@ -1,16 +1,17 @@
 -- What a whole run of a node does, what passes over its wire, what is typed at it, and what it
 -- writes.
-use Rattle.std.specs.Prelude.{◌≡◌, ◌≢◌, ◌≤◌, ◌⊎◌, ℕ, false, true, List, [], ◌++◌, length, Option, Result, Ok, Err, IfErr, IsErrAnd, IsErrOf, OnOk}
+use Rattle.std.specs.Prelude.{◌≡◌, ◌≢◌, ◌<◌, ◌≤◌, ◌⊎◌, ℕ, false, true, List, [], ◌++◌, length, Option, Result, Ok, Err, IfErr, IsErrAnd, IsErrOf, OnOk}
 use Rattle.std.specs.Io.KnownBytes.{Appends}
 use Rattle.paxos_acceptor.specs.declared.me.Me.{Me}
 use Rattle.paxos_acceptor.specs.Stores.{MayLoadOnly, StoreKind}
 use Rattle.pcode_file.specs.Parts.{Parts}
 use Rattle.group_protocol.specs.declared.fault.NodeFault.TheVariants.{SerialSpent, Store}
 use Rattle.group_protocol.specs.declared.start.StartRefused.{StartRefused}
+use Rattle.group_node.specs.declared.limits.TheConstants.{RING_BYTES}
 use Rattle.group_node.specs.Deeds.{Deed}
 use Rattle.group_node.specs.Output.{IsReplay}
 use Rattle.group_node.specs.States.{NodeState, input}
-use Rattle.group_node.specs.NodeCalls.{Running, running, unreleased_by}
+use Rattle.group_node.specs.NodeCalls.{Running, unreleased_by}
 use Rattle.group_wire.specs.Process.{RunsAsProcess}
 use Rattle.group_wire.specs.Starts.{HasStarted}
 use Rattle.node_io.specs.declared.fault.GroupFault.{GroupFault}
@@ -24,8 +25,8 @@ use Rattle.node_run.specs.Prompted.{IsPrompted}
 use Rattle.node_io.specs.Refusals.{IsCampaignRefusal, IsWrittenCycleRefusal, write_failed}
 
 -- What was written in the run of a node: the bytes that it has released, from number `seen` on,
--- each once and in order. If a write failed, the last of them is lost. They are output of the
--- program on what the node has learned.
+-- each once and in order. If a write failed, the last of them are lost: at least one, and at most
+-- 256. They are output of the program on what the node has learned.
 -- Allows: nothing, if nothing was released or all was seen.
 -- Forbids: a byte left out, or written twice; a byte that was not released.
 pub record WritesReleased (seen : ℕ) (last : Running) (fails : Type 0) (from to : Option (List ℕ))
@@ -34,7 +35,8 @@ pub record WritesReleased (seen : ℕ) (last : Running) (fails : Type 0) (from t
   pub wrote : List ℕ
   pub lost : List ℕ
   pub whole : released_from seen (input last.known) last.progress ≡ wrote ++ lost
-  pub one : fails → length lost ≡ 1
+  pub some : fails → 0 < length lost
+  pub few : length lost ≤ RING_BYTES
   pub none : ¬ fails → lost ≡ []
   pub appended : Appends from to wrote
 

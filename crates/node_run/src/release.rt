@@ -1,42 +1,51 @@
 //! The output of a node, released to a writer.
-ghost use Rattle.std.specs.Prelude.{◌≡◌, ◌<◌, ◌≤◌, [], ◌∷◌, IsOk, MatchResult, Option};
-ghost use Rattle.std.specs.Io.KnownBytes.{Appends, Keeps};
+ghost use Rattle.std.specs.Prelude.{◌≡◌, [], Option};
 ghost use Rattle.base.specs.Faults.{CountsFault};
+ghost use Rattle.group_node.specs.States.{input};
 ghost use Rattle.group_wire.specs.Doings.{HasActed};
 ghost use Rattle.group_wire.specs.Traffic.{Traffic};
+ghost use Rattle.node_run.specs.Output.{all_released, unreleased_from};
 ghost use Rattle.node_run.specs.Releases.{HasReleased};
 
+use arrayvec::ArrayVec;
+use group_node::limits::RING_BYTES;
 use group_wire::laws::deeds_go_on;
 use group_wire::{Host, TraceEvent, Wire};
 use machine_run::{ByteWriter, RunIo, WriteFault};
 use node_io::GroupFault;
 use paxos_acceptor::Store;
 
-/// Writes a released byte exactly if its number is not below `seen`. A fault of the writer is
-/// counted exactly if the write failed.
-fn write_unseen<W: ByteWriter>(
-    writer: &mut W,
+/// Releases all output that waits, and traces each byte. Returns those bytes whose number is not
+/// below `seen`, in order.
+fn release_unseen<T: Wire, S: Store>(
+    host: &mut Host<'_, S>,
     seen: u64,
-    number: u64,
-    byte: u8,
-) -> Result<(), WriteFault>
-    ensures unseen { seen ≤ number
-        → MatchResult result
-        (λ _. Appends (W.contents writer.old) (W.contents writer.new) (byte ∷ []))
-        (λ _. Keeps (W.contents writer.old) (W.contents writer.new)) }
-    ensures seen { number < seen → IsOk result × (W.contents writer.new ≡ W.contents writer.old) }
-    ensures faults { CountsFault (W.write_faults writer.old) (W.write_faults writer.new) result }
+    wire: &mut T,
+) -> ArrayVec<u8, RING_BYTES>
+    ensures progress { host.new.progress
+        ≡ all_released (input host.old.protocol.known) host.old.progress }
+    ensures unseen { result.items
+        ≡ unreleased_from seen (input host.old.protocol.known) host.old.progress }
+    ensures protocol { host.new.protocol ≡ host.old.protocol }
+    ensures acts { (passed : Option Traffic) → HasActed host.old host.new passed passed [] }
+    ensures passed { T.traffic wire.new ≡ T.traffic wire.old }
 {
-    if number < seen {
-        return Ok(());
+    deeds_go_on::<S>();
+    // No more bytes wait than there is room for.
+    host.unreleased();
+    let mut unseen = ArrayVec::new();
+    while let Some((number, byte)) = host.release() {
+        wire.trace(&TraceEvent::Released(number, byte));
+        if number >= seen {
+            unseen.push(byte);
+        }
     }
-    writer.write_byte(byte)
+    unseen
 }
 
-/// Releases all output that waits, traces each byte, and writes those whose number is
-/// not below `seen`, in order.
-/// Fails if a write fails; then the bytes before that one were written, and it and those before it
-/// were released.
+/// Releases all output that waits, traces each byte, and writes those whose number is not below
+/// `seen`, in order and at once. Fails if a write fails. Then all that waited is released all the
+/// same, and at least the last byte is not written.
 pub fn release_all<T: Wire, S: Store, W: ByteWriter>(
     host: &mut Host<'_, S>,
     seen: u64,
@@ -50,13 +59,9 @@ pub fn release_all<T: Wire, S: Store, W: ByteWriter>(
     ensures acts { (passed : Option Traffic) → HasActed host.old host.new passed passed [] }
     ensures passed { T.traffic wire.new ≡ T.traffic wire.old }
 {
-    deeds_go_on::<S>();
-    while let Some((number, byte)) = host.release() {
-        wire.trace(&TraceEvent::Released(number, byte));
-        match write_unseen(writer, seen, number, byte) {
-            Ok(()) => (),
-            Err(WriteFault) => return Err(GroupFault::from(RunIo::Write)),
-        }
+    let unseen = release_unseen(host, seen, wire);
+    match writer.write_bytes(unseen.as_slice()) {
+        Ok(()) => Ok(()),
+        Err(WriteFault) => Err(GroupFault::from(RunIo::Write)),
     }
-    Ok(())
 }

@@ -50,8 +50,9 @@ fn trace_end<T: Wire>(wire: &mut T, done: Result<(), GroupFault>) -> Result<(), 
 /// its deeds send and receive passes over the wire.
 ///
 /// What is typed is what the keyboard gave, each byte once and in order. `writer` gets each byte
-/// that the node has released, from number `seen` on, once and in order, but for one that a failed
-/// write lost, and nothing else. At `Ok` all output of the machine is released.
+/// that the node has released, from number `seen` on, once and in order, and nothing else. If a
+/// write fails, the last of them are lost: at least one, and at most 256. At `Ok` all output of the
+/// machine is released.
 ///
 /// A start that is refused ends it, and nothing passes, nothing is typed, and nothing is written.
 /// Else it ends at the first failed save or write, if the plan's campaign is refused, or where a

@@ -146,8 +146,8 @@ fn node_noted<
 /// the plan's path.
 ///
 /// What is typed is a prefix of what the reader had left, or comes as datagrams. `writer` gets each
-/// byte that the node has released, from number `plan.run.seen` on, once and in order, but for one
-/// that a failed write lost, and nothing else.
+/// byte that the node has released, from number `plan.run.seen` on, once and in order, and nothing
+/// else. If a write fails, the last of them are lost: at least one, and at most 256.
 ///
 /// The code file is looked at first, then the node and its group, then the input, which is not read
 /// if typed bytes come as datagrams, then the sockets, and then the record. A refusal before the

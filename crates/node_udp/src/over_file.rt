@@ -1,6 +1,6 @@
 //! A run of one node over the files and sockets of the system.
-ghost use Rattle.std.specs.Prelude.{◌≡◌, [], None, Some};
-ghost use Rattle.node_udp.specs.Ends.{RunsOpened, RunsOverFile, RunsWith, keyboard_at_first};
+ghost use Rattle.std.specs.Prelude.{◌≡◌};
+ghost use Rattle.node_udp.specs.Ends.{RunsOpened, RunsOverFile, RunsWith};
 
 use crate::node::NodePlan;
 use crate::opening::{open_keyboard, open_wire};
@@ -15,7 +15,7 @@ use paxos_disk::{FileDisk, LogStore};
 use pcode_ops::Program;
 use std::fs::File;
 use std::io::Write;
-use std::net::{Net, SocketAddr};
+use std::net::Net;
 use std::rt::Files;
 use std::time::Clock;
 
@@ -54,9 +54,10 @@ fn run_over_file<
     end.done
 }
 
-/// Opens the socket of the node, and runs it. It types `text`.
-fn run_over_text<
+/// Opens the socket of the node, and runs it with this keyboard.
+fn run_with<
     H: Files<File = File> + Net + Clock + AllocGlobal + Copy + Drop,
+    K: Keyboard + Drop,
     W: ByteWriter,
     E: Write,
 >(
@@ -64,46 +65,14 @@ fn run_over_text<
     program: &Program,
     config: Config,
     plan: &NodePlan<'_>,
-    text: &[u8],
+    watch: Watch,
+    keyboard: K,
     writer: &mut W,
     log: &mut Log<'_, H, E>,
 ) -> Result<(), GroupFault>
-    ensures ends { RunsWith config program.now plan.now
-        (keyboard_at_first None text.now)
+    ensures ends { RunsWith config program.now plan.now (K.keys keyboard)
         (W.contents writer.old) (W.contents writer.new) result }
 {
-    let watch = Watch::new(rt)?;
-    let wire = open_wire(rt, plan, watch, log)?;
-    let keyboard = Text { left: text };
-    let mut endpoints = Endpoints {
-        wire,
-        keyboard,
-        retries: 0,
-    };
-    run_over_file(rt, program, config, plan, &mut endpoints, writer, log)
-}
-
-/// Opens the sockets of the node and of its keyboard, and runs it. It types the bytes that come to
-/// `address` as datagrams.
-fn run_over_datagrams<
-    H: Files<File = File> + Net + Clock + AllocGlobal + Copy + Drop,
-    W: ByteWriter,
-    E: Write,
->(
-    rt: &H,
-    program: &Program,
-    config: Config,
-    plan: &NodePlan<'_>,
-    address: SocketAddr,
-    writer: &mut W,
-    log: &mut Log<'_, H, E>,
-) -> Result<(), GroupFault>
-    ensures ends { RunsWith config program.now plan.now
-        (keyboard_at_first (Some address) []) (W.contents writer.old)
-        (W.contents writer.new) result }
-{
-    let watch = Watch::new(rt)?;
-    let keyboard = open_keyboard(rt, address, &watch, log)?;
     let wire = open_wire(rt, plan, watch, log)?;
     let mut endpoints = Endpoints {
         wire,
@@ -131,8 +100,15 @@ pub fn run_opened<
     ensures ends { RunsOpened config program.now plan.now text.now
         (W.contents writer.old) (W.contents writer.new) result }
 {
+    let watch = Watch::new(rt)?;
     match plan.keys {
-        None => run_over_text(rt, program, config, plan, text, writer, log),
-        Some(address) => run_over_datagrams(rt, program, config, plan, address, writer, log),
+        None => {
+            let keyboard = Text { left: text };
+            run_with(rt, program, config, plan, watch, keyboard, writer, log)
+        }
+        Some(address) => {
+            let keyboard = open_keyboard(rt, address, &watch, log)?;
+            run_with(rt, program, config, plan, watch, keyboard, writer, log)
+        }
     }
 }

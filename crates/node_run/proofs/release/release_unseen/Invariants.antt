@@ -3,14 +3,12 @@ use Rattle.group_node.specs.Output.{unreleased_of}
 use Rattle.group_node.specs.States.{input}
 use Rattle.group_wire.specs.Doings.{HasActed}
 use Rattle.group_wire.specs.Traffic.{Traffic}
-use Rattle.node_run.proofs.Releasing.{WritesSome}
-use Rattle.node_run.proofs.release.release_all.Given as goal
+use Rattle.node_run.proofs.Releasing.{TakesSome}
+use Rattle.node_run.proofs.release.release_unseen.Given as goal
 
 abbrev pub invariant-loop-number : goal.invariant-loop-number
 invariant-loop-number g l = record {
-  writes : WritesSome l.seen (record { node = l.fn.host; written = g.W.ByteWriter.contents l.fn.writer })
-      (record { node = l.host; written = g.W.ByteWriter.contents l.writer });
-  faults : g.W.ByteWriter.write_faults l.writer ≡ g.W.ByteWriter.write_faults l.fn.writer;
+  takes : TakesSome l.seen l.fn.host l.host l.unseen.items;
   acts : (passed : Option Traffic) → HasActed l.fn.host l.host passed passed [];
   passed : g.T.Wire.traffic l.wire ≡ g.T.Wire.traffic l.fn.wire;
 }

@@ -1,8 +1,0 @@
-use Rattle.std.proofs.Common.{take}
-use Rattle.group_sim.specs.Texts.{AppendsText, held}
-use Rattle.group_sim.proofs.text.put.Given as goal
-
-abbrev pub invariant-loop-byte : goal.invariant-loop-byte
-invariant-loop-byte g l =
-    let known = held g.W.ByteWriter.contents g.W.ByteWriter.write_faults in
-    AppendsText (known l.fn.writer) (known l.writer) (take l.byte-index l.text)
