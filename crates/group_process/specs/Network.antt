@@ -1,4 +1,5 @@
--- A log of runs with what each receive gave, over a network that gives only what was handed to it.
+-- A log of runs with what each receive gave, over a network that gives only messages that were
+-- handed to it.
 use Rattle.std.specs.Prelude.{◌≡◌, ℕ, ◌==◌, List, [], ◌∷◌, ◌++◌, Contains, filter, flat_map, map, Option, Some, None}
 use Rattle.std.specs.List.{AllByRecursion}
 use Rattle.pcode_file.specs.Parts.{Parts}
@@ -26,7 +27,7 @@ pub record GivenEntry : Type 0 where
 abbrev pub with_given : List (Option (List ℕ)) → Entry → GivenEntry
 with_given given e = record { entry = e; given = given }
 
--- This entry, for which nothing was received.
+-- This entry, for which no receive was made.
 abbrev pub unreceived : Entry → GivenEntry
 unreceived e = with_given [] e
 
@@ -69,10 +70,10 @@ AreLetters group letters given =
     (bytes : List ℕ) (m : Msg) → Contains given (Some bytes) → Spells group bytes m
     → (l : Letter) × Contains letters l × (l.bytes ≡ bytes)
 
--- Entries for each of which a receive gave only what was handed over before it: at first, or by an
--- entry before it.
--- Allows: a datagram that never comes, or comes again and again, late, or before an older one, or
--- at another node.
+-- Each message that a receive gave for an entry was handed over before it: at first, or by an
+-- earlier entry.
+-- Allows: a datagram that spells no message, wherever it is from; one that never comes, or comes
+-- again and again, late, or before an older one, or at another node.
 abbrev pub AreDelivered : Group → List Datagram → List GivenEntry → Type 0
 AreDelivered group sent [] = Unit {0}
 AreDelivered group sent (e ∷ log) =
@@ -81,7 +82,7 @@ AreDelivered group sent (e ∷ log) =
 
 -- A log of the processes of a group with what was received, in one order of time. Each entry is of
 -- a node of the group, and those of each node are its runs, over a store that keeps its record.
--- What a receive gave was handed over before.
+-- Each message that a receive gave was handed over before.
 pub record IsNetworkLog (p : Parts) (group : Group) (runs : ℕ → List Attempt)
     (log : List GivenEntry) : Type 0 where
   pub among : AllByRecursion (λ e. IsNode group.size e.entry.node) log
@@ -112,8 +113,8 @@ pub record AreEntriesOf (group : Group) (starts : ℕ → List Attempt) (log : L
       ≡ flat_map (entries_of_attempt (record { node = i; group = group })) (starts i)
   pub carried : IsCarried group [] log
 
--- The claim that some runs of the processes of this group have such a log, which is a log of runs,
--- and that one of them hears a message in it.
+-- The claim that some runs have a network log (`IsNetworkLog`) in which a message is heard, and
+-- that its entries alone are a log of these runs (`IsGroupLog`).
 abbrev pub MayHear : Parts → Group → Type 0
 MayHear p group =
     (runs : ℕ → List Attempt) × (log : List GivenEntry) × (e : GivenEntry) × (m : Msg)

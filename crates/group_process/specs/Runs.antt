@@ -1,4 +1,10 @@
--- Runs of the process of a node, as entries of a log of its group.
+-- The starts and runs of the nodes of a group, as entries of a log.
+--
+-- A *start* (`Attempt`) is what a node does from one load of its store to the next. It *runs*
+-- (`NodeRun`), or its save fails. A run has what its process did on a wire (`Process` of
+-- group_wire), the node after that, and whether it goes on (`Stand`). A node may have several
+-- starts, one after the other. Of a function `runs : ℕ → List Attempt`, `runs i` are the starts of
+-- node `i`, so that it has those of all nodes of the group.
 use Rattle.std.specs.Prelude.{◌≡◌, ◌≢◌, ◌⊎◌, ℕ, Bool, if◌then◌else◌, List, [], ◌∷◌, ◌++◌, Contains, flat_map, map, Option, Some, None}
 use Rattle.std.specs.List.{AllByRecursion}
 use Rattle.pcode_file.specs.Parts.{Parts}
@@ -26,7 +32,7 @@ use Rattle.group_world.specs.Processes.{Entry, IsCarried, IsHistory, IsLog, afte
 
 -- ---- as entries
 
--- What a node does on its wire as an entry.
+-- What a node does on its wire (`Doing`), as an entry of a log.
 abbrev pub entry_by : ℕ → Outcome → Doing → Entry
 entry_by node save d =
     record { node = node; deed = d.deed; save = save; sent = d.sent; typed = d.typed }
@@ -35,21 +41,22 @@ entry_by node save d =
 abbrev pub failed_as : Bool → Outcome
 failed_as is_changed = if is_changed then FailedNew else FailedOld
 
--- The end of a process: it was killed, or its save failed at a deed; then its store has the changed
--- record or the old one.
+-- The entries of the end of a run. Without a deed that failed it is a kill. With one, `is_changed`
+-- says whether the store has the changed record after the failed save.
 abbrev pub run_end : ℕ → Bool → Option Doing → List Entry
 run_end node is_changed None = quiet_entry node Crash ∷ []
 run_end node is_changed (Some d) = entry_by node (failed_as is_changed) d ∷ []
 
 -- ---- runs, one after the other
 
--- The state of a run: it goes on; or it is over, and where its save failed, its store has the
--- changed record, or the old one.
+-- The state of a run: it goes on, or it is over. If it ended at a failed save, the boolean says
+-- whether its store has the changed record. Otherwise the boolean means nothing.
 pub data Stand : Type 0 where
   GoesOn : Stand
   IsOver : Bool → Stand
 
--- A run of a node's process, with its node after its deeds.
+-- A run of a node: what its process did (`Process`), the node after that, and whether the run goes
+-- on.
 pub record NodeRun : Type 0 where
   pub process : Process
   pub last : Running
@@ -76,8 +83,8 @@ abbrev pub node_by : NodeRun → Stand → Option Running
 node_by run GoesOn = Some run.last
 node_by run (IsOver is_changed) = None
 
--- A start of a node's process: it runs; or the save of its start over this record fails, and its
--- store has the changed record, or the old one.
+-- A start of a node: it runs; or the save of the start over this record fails. Then the boolean
+-- says whether the store has the changed record, or else the old one.
 pub data Attempt : Type 0 where
   Starts : NodeRun → Attempt
   FailsToStart : Record → Bool → Attempt
@@ -110,7 +117,9 @@ abbrev pub IsLastIfOn : Stand → List Attempt → Type 0
 IsLastIfOn GoesOn rest = rest ≡ []
 IsLastIfOn (IsOver is_changed) rest = Unit {0}
 
--- A start over a store that has the record `kept`. Its load gives this record.
+-- A start over a store that has the record `kept`, followed by the starts `rest`. Its load gives
+-- `kept`. A run is one of the node's process, and the last start if it goes on. If the save of a
+-- start fails, the starts were not spent.
 -- Forbids: a load that gives an older record; a start while a run goes on.
 abbrev pub IsAttempt : Parts → Me → Record → Attempt → List Attempt → Type 0
 IsAttempt p me kept (Starts run) rest =
@@ -118,8 +127,8 @@ IsAttempt p me kept (Starts run) rest =
 IsAttempt p me kept (FailsToStart loaded is_changed) rest =
     (loaded ≡ kept) × (loaded.starts ≢ LAST_START)
 
--- The starts of a node, one after the other: each is so over what is known of its store before it,
--- and `next` says what is known after it.
+-- The starts of a node, one after the other. `so` holds of what is known of its store, a start, and
+-- the starts after it. `next` gives what is known after a start.
 abbrev pub AreInTurn : {K : Type 0} → (K → Attempt → List Attempt → Type 0) → (K → Attempt → K)
     → K → List Attempt → Type 0
 AreInTurn so next known [] = Unit {0}
@@ -154,9 +163,9 @@ AreHistory p me m runs =
 
 -- ---- a group
 
--- A log of the processes of a group, in one order of time. Each entry is of a node of the group,
--- and those of each node are its runs, over a store that keeps its record. What is heard was sent
--- before.
+-- A log of the runs of a group, in one order of time. `runs i` are the starts of node `i`, over a
+-- store that has the empty record at first and keeps its record. Each entry is of a node of the
+-- group, and those of each node are its runs. What is heard was sent before.
 pub record IsGroupLog (p : Parts) (group : Group) (runs : ℕ → List Attempt)
     (log : List Entry) : Type 0 where
   pub among : AllByRecursion (λ e. IsNode group.size e.node) log

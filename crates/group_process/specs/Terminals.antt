@@ -65,14 +65,15 @@ TerminalsShowConsoles starts now =
     (i : ℕ) (m : Member) (runs : List TerminalRun) → member_at now i ≡ Some m
     → AreAtTerminal (starts i) runs → IsPrefix (terminal_after [] runs) m.console
 
--- It shows all that the last run of the node has released, if that has written all that it had to.
+-- The terminal of a node shows all that its last run has released, if that run has written all that
+-- it had to.
 abbrev pub TerminalsShowLastRuns : (ℕ → List Attempt) → List Member → Type 0
 TerminalsShowLastRuns starts now =
     (i : ℕ) (m : Member) (runs : List TerminalRun) (last : TerminalRun) → member_at now i ≡ Some m
     → AreAtTerminal (starts i) (runs ++ last ∷ []) → WritesWhole last
     → IsPrefix last.released (terminal_after [] (runs ++ last ∷ []))
 
--- It is the console, if nothing of it was lost.
+-- The terminal of a node shows exactly its console, if nothing was lost.
 abbrev pub TerminalsAreConsoles : (ℕ → List Attempt) → List Member → Type 0
 TerminalsAreConsoles starts now =
     (i : ℕ) (m : Member) (runs : List TerminalRun) → member_at now i ≡ Some m

@@ -43,8 +43,9 @@ pub fn runs_are_histories()
         → AreRuns p me m.kept runs → AreHistory p me m runs }
 {}
 
-/// A log of the runs of a group leaves all its nodes, each as its runs left it. It leaves no other
-/// ones, whatever runs it is taken for.
+/// After a log of runs there are nodes (`IsAfterRuns`): all nodes of the group, each with the
+/// record that its runs left, and up or down as they left it. There is only one such list of nodes,
+/// whichever runs the log is taken for.
 pub fn processes_make_a_log()
     ensures nodes { (p : Parts) (group : Group) (runs : ℕ → List Attempt) (log : List Entry)
         → IsGroupLog p group runs log → LeaveNodes p group runs log }
@@ -63,10 +64,9 @@ pub fn fronts_of_runs()
         → IsGroupLog p group runs (log ++ more) → HasRuns p group runs log }
 {}
 
-/// Where each datagram that a receive gave, if it spells a message, was handed to some wire before,
-/// all that is heard was sent before: a log of runs with what receives gave, over such a network,
-/// is a log of runs. Whatever stores the processes of the nodes are over, it is a log of their
-/// starts in which all that is heard was sent before.
+/// If each message that a receive gave was handed over before (`IsNetworkLog`), the entries alone
+/// are a log of the runs (`IsGroupLog`). Over any stores (`IsDeliveredLog`) they are entries of the
+/// starts, and what is heard was sent before (`AreEntriesOf`).
 pub fn networks_carry()
     ensures runs { (p : Parts) (group : Group) (runs : ℕ → List Attempt) (log : List GivenEntry)
         → IsGroup group → IsNetworkLog p group runs log
@@ -78,8 +78,8 @@ pub fn networks_carry()
     spelling_is_read();
 }
 
-/// Some runs have such a log, so the premises of the main theorem can be met. In every group node 1
-/// may start, campaign, and hear its own Prepare.
+/// Every program and every group of 1, 3, 5, 7 or 9 nodes has such runs as `MayHear` claims. So the
+/// premises of the main theorem can be met.
 pub fn runs_may_hear()
     ensures { (p : Parts) (group : Group) → IsSize group.size → IsGroup group → MayHear p group }
 {
@@ -87,9 +87,10 @@ pub fn runs_may_hear()
     networks_carry();
 }
 
-/// What the runs of a node wrote, one after the other at its terminal, is its console. Each run is
-/// told in `--seen` how many bytes are there. Premises: the console begins with what each run has
-/// released, and is what one of them has released, or nothing.
+/// What a terminal shows of its node's console, if the runs write at it in turn and each is told in
+/// `--seen` how many bytes are there (`AreAtTerminal`). Premise of all three: the console begins
+/// with what each run has released. The third needs one more: it is what one of them has released,
+/// or nothing.
 ///
 /// - The terminal shows a prefix of the console, whatever was lost.
 /// - What the last run has released is there once that run has written all that it had to.
@@ -148,7 +149,8 @@ pub fn wrong_terminals()
 /// each two moments.
 /// - The console of a node begins with what each of its runs has released, also when the run is
 /// over, and it is what one of them has released, or nothing: the longest of these.
-/// - What the runs of a node wrote at its terminal is its console (`terminals_are_consoles`).
+/// - A terminal shows a prefix of its node's console, and all of it if nothing was lost
+/// (`terminals_are_consoles`).
 pub fn runs_headline()
     ensures nodes { (p : Parts) (group : Group) (runs : ℕ → List Attempt) (log : List Entry)
         → IsGroupLog p group runs log → LeaveNodes p group runs log }

@@ -183,7 +183,7 @@ fn end_of(node: &Node<'_, MemoryStore>) -> u32
     ensures none { (s : ℕ) → result ≤ s
         → get node.now.protocol.known.learner.learned s ≡ None }
 {
-    // A node is in its ranges.
+    // For its contract: what the node knows is in its ranges.
     node.record();
     node.known_front().saturating_add(WINDOW).min(PLACES)
 }

@@ -253,8 +253,9 @@ impl Simulation<'_> {
 
     /// Delivers each message that no settle has passed, and each that these cause, in the order in
     /// which they were sent, to those of its addressees that are up. Then lets each node that is up
-    /// run for at most 1,000 steps and release all its output, node 1 first. Halts with `TooLong`
-    /// before the 10,001st delivery. Where it halts, what was done before has happened.
+    /// run for at most 1,000 steps and release all its output, node 1 first. Halts with
+    /// `ScriptHalt::For(None)` before the 10,001st delivery. What was done before a halt has
+    /// happened.
     fn settle<W: ByteWriter>(&mut self, writer: &mut W, line: usize) -> Result<(), ScriptHalt>
         ensures size { self.new.size ≡ self.old.size }
         ensures settles { PerformsTask W.contents W.write_faults

@@ -58,7 +58,8 @@ lost_of came = sum_by (λ a. loss_of a.fate) came
 abbrev pub IsUnheard : List Arrival → Type 0
 IsUnheard came = (heard_of came ≡ []) × (lost_of came ≡ 0)
 
--- The end of hearing: it may go on, the wire gave nothing, or the node refused a message.
+-- How hearing ended: at a datagram that is among the arrivals (`GoesOn`), at a receive that gave
+-- nothing, or at a message that the node refused, whose datagram is not among them.
 pub data Ending : Type 0 where
   GoesOn : Ending
   NoneCame : Ending

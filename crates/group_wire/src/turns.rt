@@ -205,7 +205,7 @@ impl<'a, S: Store> Host<'a, S> {
         calls_keep_what_is_learned();
         input_grows();
         output_only_grows();
-        // The machine is where a replay from the start is.
+        // For its contract: the machine is where a replay from the start is.
         self.unreleased();
         let mut buffer = [0u8; LONGEST_DATAGRAM + 1];
         self.hear_next(wire, &mut buffer)

@@ -42,8 +42,8 @@ quiet_entry node deed = record { node = node; deed = deed; save = Kept; sent = [
 abbrev pub left_by : Entry → Done → Member → Left
 left_by e d new = record { answer = d; member = new; sent = e.sent; typed = e.typed }
 
--- The entry of a deed of node `m`, and the node after it, whatever the deed answered. `p` is the
--- program.
+-- The claim that node `m` does the deed of `e`, with the save, datagrams and keys of `e`, and is
+-- `new` after it, whatever the deed answered. `p` is the program.
 abbrev pub DoesEntry : Parts → Me → Member → Entry → Member → Type 0
 DoesEntry p me m e new = (d : Done) × DoesDeed p me m (plan_of e.save) e.deed (left_by e d new)
 
@@ -75,7 +75,8 @@ abbrev pub IsCarried : Group → List Datagram → List Entry → Type 0
 IsCarried group sent [] = Unit {0}
 IsCarried group sent (e ∷ log) = HearsOf group sent e.deed × IsCarried group (sent ++ e.sent) log
 
--- A log of the processes of a group that was `w`, whose nodes are `now` after it, node 1 first.
+-- A log of the processes of a group. The world before it is `w`, and `now` are the nodes after it,
+-- node 1 first.
 -- The log is in one order of time. Each entry is of a node of the group. The entries of each node
 -- are a history of its process, over a store that keeps its record. What is heard was sent before.
 -- Allows: any order of the deeds of two nodes, where one does not hear what the other sent.
@@ -87,7 +88,7 @@ pub record IsLog (w : World) (log : List Entry) (now : List Member) : Type 0 whe
       → IsHistory w.program (me_of w i) m (entries_of i log) last
   pub carried : IsCarried w.group w.sent log
 
--- The group after a log of its processes: these nodes, and what was sent and typed.
+-- The world after a log of its processes: these nodes, and what was sent and typed.
 abbrev pub after_log : World → List Entry → List Member → World
 after_log w log now =
     record w { members = now; sent = w.sent ++ sent_in log; typed = w.typed ++ typed_in log }
@@ -135,7 +136,7 @@ AlwaysLaterOfProcesses P =
     → P (world_state (after_log (new_world p group) log mid))
     (world_state (after_log (after_log (new_world p group) log mid) more now))
 
--- The claim that a log of processes, with these events, leads from a group to another.
+-- The claim that a log of processes, with these events, leads from the world `w` to `v`.
 -- Forbids: an idle entry, which is no event.
 abbrev pub MayBeLogged : World → List Event → World → Type 0
 MayBeLogged w events v =
@@ -144,8 +145,8 @@ MayBeLogged w events v =
 
 -- ---- two parts of a log
 
--- Nodes between two parts of a log of the processes of a group that was `w`: the first part leads
--- to the nodes `mid`, and the second one from them to `now`.
+-- Nodes between two parts of a log of processes. The first part leads from the world `w` to the
+-- nodes `mid`, and the second one from these to `now`.
 -- Allows: a part with no entries.
 pub record IsMoment (w : World) (log more : List Entry) (mid now : List Member) : Type 0 where
   pub before : IsLog w log mid

@@ -44,7 +44,7 @@ pub record IsMemberSound (p : Parts) (me : Me) (sent : Sent) (typed : List Key)
   pub backed : IsRecordBacked sent me.node m.kept
   pub running : IfSome m.node (IsRunningSound p me sent typed m.kept)
 
--- A world of faithful nodes, in which each datagram spells a message.
+-- A world whose nodes are sound, and in which each datagram spells a message.
 pub record IsSound (w : World) : Type 0 where
   pub size : IsSize w.group.size
   pub session : IsGroup w.group
@@ -53,7 +53,7 @@ pub record IsSound (w : World) : Type 0 where
   pub members : (i : ℕ) (m : Member) → member_at w.members i ≡ Some m →
       IsMemberSound w.program (me_of w i) (world_state w).sent (world_state w).typed m
 
--- All that always holds of a world: its nodes are faithful, and it is a group by the rules.
+-- The invariant of a `World`: it is sound, and the rules' invariant holds of it.
 pub record Holds (w : World) : Type 0 where
   pub sound : IsSound w
   pub rules : HoldsByRules (world_state w)

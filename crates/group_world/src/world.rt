@@ -77,10 +77,11 @@ impl<'a> World<'a> {
         }
     }
 
-    /// Performs `event`. Each act but a crash calls the function of `Node` that has its name (a
-    /// delivery calls `on_message`, with the message that the datagram of that number spells). Its
-    /// save, if it makes one, goes as `event` says. `Done` says what came of it: if the node itself
-    /// refuses the call, that is `Ok` too (`Done::Refused`), and nothing has changed.
+    /// Performs `event`. Each act but a crash calls a function of `Node`: a press calls `typed`, a
+    /// delivery `on_message` with the message that the datagram of that number spells, and each
+    /// other act the function of its name. Its save, if it makes one, goes as `event` says. `Done`
+    /// says what came of it: if the node itself refuses the call, that is `Ok` too
+    /// (`Done::Refused`), and nothing has changed.
     ///
     /// Fails with `NoNode` if there is no such node, else with `NoMessage` if no message of that
     /// number was sent, else with `NodeDown` if the node is down, or at a start `NodeUp` if it is

@@ -37,7 +37,8 @@ bytes_written_of (Err e) = if is_interrupted (error_kind e) then None else Some 
 
 -- A write of these bytes that has failed: none or some first ones of them were written, and the
 -- others were not.
--- Forbids: a byte that is written behind one that is not; a failure after the last byte.
+-- Forbids: a byte that is written behind one that is not; a failure after the last byte, or of a
+-- write without bytes.
 pub record WritesPart (from to : Option (List ℕ)) (bytes : List ℕ) : Type 0 where
   pub wrote : List ℕ
   pub lost : List ℕ

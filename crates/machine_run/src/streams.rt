@@ -2,8 +2,9 @@
 //!
 //! The contracts of std's `Read` and `Write` cannot say that a call failed, so no clause can say
 //! that a fault was really met. These two traits count faults. The wrapper `Counting` makes one of
-//! any `Read` or `Write`. What the answer of a call means, private functions with exact contracts
-//! say; that each call of `Counting` makes one call and takes its answer is what its lines show.
+//! any `Read` or `Write`. Private functions with exact contracts say what the answer of one `read`
+//! or `write` means. Only the lines of `read_some` and `write_some` show that a call was made: a
+//! body that counts a fault and fails at once meets their contracts.
 ghost use Rattle.std.specs.Prelude.{◌≡◌, ℕ, List, [], ◌∷◌, ◌<◌, ◌≤◌, length, IfOk, Option, IsNone, MatchResult};
 ghost use Rattle.std.specs.Option.{option_to_list};
 ghost use Rattle.std.specs.Io.KnownBytes.{Keeps, Appends, Consumes, IsAtEnd, ReadConsumes, WriteAppends};
@@ -53,7 +54,8 @@ pub trait ByteWriter {
     /// Appends `bytes` to what the writer holds. A call that fails appends none or some first ones
     /// of them, but never all (`WritesPart`), and counts one more fault. No other call counts one.
     ///
-    /// A write that takes nothing is a failed one.
+    /// If the stream takes none of some bytes, that is a failed write. A call without bytes does
+    /// not fail.
     fn write_bytes(&mut self, bytes: &[u8]) -> Result<(), WriteFault>
         ensures bytes { MatchResult result
             (λ _. Appends (contents self.old) (contents self.new) bytes.now)

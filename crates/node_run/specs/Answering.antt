@@ -23,7 +23,7 @@ use Rattle.node_io.specs.Refusals.{IsCycleRefusal}
 abbrev pub LeadsAboveItsVotes : Known → Type 0
 LeadsAboveItsVotes n = (is_leading n.proposer ≡ true) × All (λ v. v.place < front n) n.kept.votes
 
--- Typing of the bytes that a keyboard gave. If the serials are spent, the last of them are lost.
+-- Typing of the bytes that a keyboard gave. If the serials are spent, the last of them may be lost.
 -- Nothing passes over the wire, whatever it is (`passed`).
 -- Forbids: a byte that is typed twice, or that the keyboard did not give.
 abbrev pub HasTypedGiven : {S : Type 0} → NodeState S → NodeState S → KeyboardState → KeyboardState
@@ -42,7 +42,8 @@ left_once_given room left = record left { bytes = drop room left.bytes }
 
 -- What a keyboard has left that was answered: a request fewer, if one was there, or else the bytes
 -- for which there was no room.
--- Forbids: a request or a byte that is passed over.
+-- Forbids: a request that is passed over; a byte that is given while a request is there; if none is
+-- there, a byte that is left though there is room.
 abbrev pub left_once_answered : ℕ → Remaining → Remaining
 left_once_answered room left =
     if nat_lt 0 left.requests then record left { requests = left.requests - 1 }
@@ -82,8 +83,9 @@ AnswersSeen kind Bytes old new from to seen left =
 AnswersSeen kind answer old new from to seen left =
     HasGiven seen (Campaign ∷ []) left × HasCampaignedAsAsked kind old new from to (Ok answer)
 
--- How often a node may campaign again once its keyboard was answered so: three times after a
--- campaign that was asked for, and never if there was no such campaign.
+-- How often a node may campaign again once its keyboard was answered so: three times if it
+-- campaigned, never if it ignored the request or could not campaign, and as often as before if it
+-- typed.
 abbrev pub retries_after : Answered → ℕ → ℕ
 retries_after Bytes retries = retries
 retries_after Campaigned retries = MOST_RETRIES
@@ -92,7 +94,8 @@ retries_after (CampaignRefused f) retries = 0
 
 -- A keyboard that is looked at, and then answered by what it has: by a request, if one is there, or
 -- else by all bytes for which the node has room.
--- Forbids: a request that is there and passed over; a byte for which there is room, likewise.
+-- Forbids: a request that is passed over; a byte that is given while a request is there; if none is
+-- there, a byte that is left though there is room.
 pub record AnswersWhatCame {S : Type 0} (kind : StoreKind S) (answer : Answered)
     (old new : NodeState S) (from to : Surroundings) : Type 0 where
   pub seen : KeyboardState

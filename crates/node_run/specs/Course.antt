@@ -47,8 +47,8 @@ HasReason (group.Node RoundsSpent) n = last_round n ≡ LAST_ROUND
 HasReason (group.Node PlacesSpent) n = front n ≡ PLACES
 HasReason _ n = Unit {0}
 
--- What a node did in so many turns, after the prompts `first`: its deeds have these and those of
--- its keyboard, and exactly what passes in them has passed over its wire.
+-- What a node did in so many turns. Its deeds have the prompts `first` and then `prompts`, as
+-- `IsPrompted` says. Exactly what passes in its deeds has passed over its wire.
 pub record HasMadeTurns {S : Type 0} (first : List Deed) (old new : NodeState S)
     (from to : Surroundings) (turns : ℕ) : Type 0 where
   pub gift : List Deed

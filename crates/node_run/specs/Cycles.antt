@@ -66,6 +66,7 @@ HearsAtRest {S} {T} kind old new from to (Err e) =
 
 -- A rest: the node hears what comes, which are deeds without a prompt. Something may come to its
 -- keyboard, and nothing is taken from that.
+-- Allows: no receive, also if the node is not busy.
 pub record Rests {S : Type 0} (kind : StoreKind S) (a b : RunMoment S) : Type 0 where
   pub times : ℕ
   pub hears : HearsTimes kind times a.node b.node a.around.traffic b.around.traffic
@@ -87,9 +88,10 @@ pub record AnswersKeyboard {S : Type 0} (kind : StoreKind S) (answer : Answered)
   pub did : AnswersWhatCame kind answer a.node b.node a.around b.around
   pub unwritten : b.written ≡ a.written
 
--- A turn: the node hears, ticks if that is due, and runs its machine, which is where a replay is
--- then. The tick is due unless a place was learned since the known front was at `begun`, and the
--- node has caught up.
+-- A turn: the node hears, ticks if that is due and memory suffices, and runs its machine. Then its
+-- progress is that of a replay from the start on the learned input (`IsReplay`). The tick is not
+-- due if a place was learned since the known front was at `begun` and the node has caught up.
+-- Otherwise it is due.
 pub record TakesTurn {S : Type 0} (kind : StoreKind S) (begun : ℕ) (turned : Turned)
     (a b : RunMoment S) : Type 0 where
   pub did :
@@ -114,9 +116,9 @@ pub record ReleasesOutput {S : Type 0} (seen : ℕ) (a b : RunMoment S)
 abbrev pub front_at : {S : Type 0} → RunMoment S → ℕ
 front_at a = front a.node.protocol.known
 
--- A cycle up to its release: a rest, a campaign once more if one is due, the keyboard, and a turn,
--- which ticks unless a place was learned since the cycle began, and the node has caught up. What
--- was released before stays as it is.
+-- A cycle up to its release: a rest, a campaign once more if one is due, the keyboard, and a turn.
+-- The turn leaves its tick out if a place was learned since the cycle began and the node has caught
+-- up. What was released before stays as it is.
 pub record IsCycleUpToRelease {S : Type 0} (kind : StoreKind S) (a b : RunMoment S) : Type 0 where
   pub rested : RunMoment S
   pub tried : RunMoment S
@@ -208,7 +210,7 @@ abbrev pub TurnsOrEnds : {S T : Type 0} → StoreKind S → RunMoment S → RunM
 TurnsOrEnds kind a b (Ok x) = IsCycleUpToRelease kind a b
 TurnsOrEnds kind a b (Err e) = EndsBeforeRelease kind a b e
 
--- A cycle that is refused: so, or because a write fails.
+-- A cycle that is refused: before its release, or at it, because a write fails.
 abbrev pub EndsInCycle : {S : Type 0} → StoreKind S → ℕ → RunMoment S → RunMoment S → GroupFault
     → Type 0
 EndsInCycle {S} kind seen a b e =

@@ -1,5 +1,6 @@
--- What a node is prompted to do in its turns. Its prompts are the deeds that come from outside: a
--- typed byte and a campaign, which its keyboard gives, and a run of the machine, one in each turn.
+-- What a node is prompted to do in its turns. A prompt types a byte, campaigns, or runs the
+-- machine. The keyboard gives bytes and requests to campaign. A retry is a prompt too. There are as
+-- many runs as turns.
 use Rattle.std.specs.Prelude.{◌≡◌, ◌≤◌, ◌+◌, ◌*◌, ℕ, Bool, true, false, List, [], ◌++◌, filter, length}
 use Rattle.group_node.specs.Deeds.{Deed, Run}
 use Rattle.node_run.specs.declared.limits.TheConstants.{MOST_RETRIES}
@@ -16,9 +17,9 @@ turns_in prompts = length (filter is_run prompts)
 
 -- The prompts of a node in so many turns, at which its keyboard gave the prompts `gift`. What was
 -- typed is what the keyboard gave, each byte once and in order. If the serials were spent, the last
--- bytes that it gave were lost. For each request it campaigns once, and up to three times more if
--- its ballot is refused. `had` is how often it might campaign again before, and `left` how often
--- it may now.
+-- bytes that it gave may be lost. Otherwise none is. `had` is how often the node might campaign
+-- again before, and `left` how often it may now: its campaigns and `left` together are at most four
+-- for each request, and `had`.
 -- Allows: a campaign that was asked for, and could not begin, or that a leader has ignored.
 -- Forbids: a byte that is typed twice; a campaign that nobody asked for; more than four campaigns
 -- for each request, all together.

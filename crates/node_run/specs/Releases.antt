@@ -31,7 +31,8 @@ pub record LosesOutput {S : Type 0} (seen : ℕ) (old new : NodeMoment S) : Type
       (input old.node.protocol.known) old.node.progress)
   pub protocol : new.node.protocol ≡ old.node.protocol
 
--- A release of all output, with its answer: it is refused exactly if a write failed.
+-- A release of all output, by its answer. At `Ok` the bytes that were not seen are written. At
+-- `Err` at least one of them is lost, and the answer is `write_failed`.
 abbrev pub HasReleased : {S : Type 0} → ℕ → NodeMoment S → NodeMoment S
     → Result (Unit {0}) GroupFault → Type 0
 HasReleased seen old new (Ok x) = WritesAll seen old new

@@ -15,9 +15,9 @@ use Rattle.node_run.specs.declared.retries.Retried.{Retried}
 use Rattle.node_run.specs.declared.retries.Retried.TheVariants.{NotDue, Campaigned, CampaignRefused}
 use Rattle.node_run.specs.Course.{Surroundings, FailsAt}
 
--- The node has no ballot because it was refused: a Refused has reported a greater one than the node
--- has promised.
--- Forbids: a node that has promised the ballot of another one meanwhile.
+-- The node has no ballot. The greatest ballot that a Refused has reported to it is above the one
+-- that it has promised.
+-- Forbids: a node that has promised the ballot that refused it, or a greater one.
 abbrev pub IsBallotRefused : Known → Type 0
 IsBallotRefused n = (own_ballot n.proposer ≡ None) × (refusing promised : Ballot)
     × (n.remembered ≡ Some refusing) × (n.kept.promised ≡ Some promised)

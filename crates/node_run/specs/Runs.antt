@@ -24,11 +24,13 @@ use Rattle.node_io.specs.Prompts.{GivesWhatCame}
 use Rattle.node_run.specs.Prompted.{IsPrompted}
 use Rattle.node_io.specs.Refusals.{IsCampaignRefusal, IsWrittenCycleRefusal, write_failed}
 
--- What was written in the run of a node: the bytes that it has released, from number `seen` on,
--- each once and in order. If a write failed, the last of them are lost: at least one, and at most
--- 256. They are output of the program on what the node has learned.
--- Allows: nothing, if nothing was released or all was seen.
--- Forbids: a byte left out, or written twice; a byte that was not released.
+-- What a run has written: the released bytes from number `seen` on, in order, but for those that
+-- are `lost`. If a write failed (`fails`), these are the last of them: at least one, and at most
+-- 256. Otherwise none is lost. The released bytes are output of the program on what the node has
+-- learned.
+-- Allows: nothing, if nothing was released or all was seen; any bytes, if the writer's are unknown.
+-- Forbids: a byte left out before one that is written; a byte that is written twice, or was not
+-- released.
 pub record WritesReleased (seen : ℕ) (last : Running) (fails : Type 0) (from to : Option (List ℕ))
     : Type 0 where
   pub replay : IsReplay (input last.known) last.progress
@@ -46,10 +48,9 @@ abbrev pub IsEarlyEnd : RunPlan → GroupFault → Type 0
 IsEarlyEnd plan e = IsWrittenCycleRefusal e ⊎ ((plan.campaigns ≡ true) × IsCampaignRefusal e)
 
 -- A run of a node that has started, as a process of its group over one load of its store, which is
--- `end` after it. All that
--- passes over its wire is what passes in its deeds. It campaigns first if its plan says so. Then it
--- is prompted by its keyboard, and takes as many turns as the plan has, or fewer if it is refused.
--- After all turns no output waits. It ends at its first failed save.
+-- `end` after it. All that passes over its wire is what passes in its deeds. It campaigns first if
+-- its plan says so. Then it is prompted by its keyboard. At `Ok` it has taken all turns of the
+-- plan, at `Err` at most those. After all turns no output waits. It ends at its first failed save.
 -- Allows: turns at which nothing is heard.
 -- Forbids: output that waits at `Ok`.
 pub record RunsNode {S : Type 0} (kind : StoreKind S) (me : Me) (program : Parts) (store end : S)

@@ -29,7 +29,8 @@ use std::time::Clock;
 pub struct RunPlan {
     /// How many turns it takes.
     pub turns: u32,
-    /// Released bytes with a smaller number are not written.
+    /// How many bytes of the output were seen before this start. Released bytes with a smaller
+    /// number are not written.
     pub seen: u64,
     /// True if it campaigns before its first turn.
     pub campaigns: bool,
@@ -104,7 +105,7 @@ fn rest_and_turn<H: Clock, T: CountedWire, K: Keyboard, S: Store, E: Write>(
     let answered = answer_keyboard(host, endpoints)?;
     note_answered(host, &endpoints.keyboard, answered, log);
     let ran = own_turn(host, &mut endpoints.wire, begun)?;
-    // The machine is where a replay from the start is.
+    // For its contract: the machine is where a replay from the start is.
     host.unreleased();
     log.look(host.node().protocol());
     log.note_program_end(ran.end());

@@ -24,8 +24,10 @@ use pcode_machine::laws::{output_only_grows, prefixes_are_ordered};
 
 /// A start with `--seen 0` writes the first bytes of its output. After a later start that gets the
 /// console's length the console shows the first bytes of one output: as many as the console showed
-/// before, or as that start released, whichever is more. Premise: of the two learned inputs one
-/// continues the other, as with two starts in one group.
+/// before, or as that start released, whichever is more.
+///
+/// Premises: the console showed output of the program on the earlier input; of both learned inputs
+/// one continues the other, as with two starts in one group; no write of the later start fails.
 pub fn consoles_go_on()
     ensures first { (x : List ℕ) (q : Progress) → IsReplay x q
         → AreFirst q.program x q.released (released_from 0 x q) }

@@ -10,7 +10,9 @@
 //! - `laws::cycles_are_a_run`, a law: that run is a process of a group;
 //! - `laws::consoles_go_on`, a law: the output of a node continues over its starts.
 //!
-//! A node waits for datagrams between its turns.
+//! A node waits for datagrams between its turns. `specs/Cycles.antt` has what `run_node` promises
+//! of the node, cycle by cycle. `RunsNode` is the same run as deeds with prompts, and
+//! `laws::cycles_are_a_run` derives it.
 #![tactic(auto)]
 
 mod answering;

@@ -31,7 +31,7 @@ fn release_unseen<T: Wire, S: Store>(
     ensures passed { T.traffic wire.new ≡ T.traffic wire.old }
 {
     deeds_go_on::<S>();
-    // No more bytes wait than there is room for.
+    // For its contract: at most 256 bytes wait, so `unseen` has room for all of them.
     host.unreleased();
     let mut unseen = ArrayVec::new();
     while let Some((number, byte)) = host.release() {
@@ -43,9 +43,12 @@ fn release_unseen<T: Wire, S: Store>(
     unseen
 }
 
-/// Releases all output that waits, traces each byte, and writes those whose number is not below
-/// `seen`, in order and at once. Fails if a write fails. Then all that waited is released all the
-/// same, and at least the last byte is not written.
+/// Releases all output that waits, and writes those bytes whose number is not below `seen`, in
+/// order.
+///
+/// If a write fails, all output is released too. None or some first ones of those bytes are
+/// written, and the others are lost. No clause says that each byte is traced, or that one call
+/// writes all.
 pub fn release_all<T: Wire, S: Store, W: ByteWriter>(
     host: &mut Host<'_, S>,
     seen: u64,

@@ -59,7 +59,7 @@ fn ends_rest<T: RestingWire>(wire: &mut T, waiting: usize) -> bool
 }
 
 /// Receives once, and waits if nothing came. Returns true if the rest is over: it has taken its
-/// time, the keyboard calls, or the known front has moved since it was at `front`.
+/// time, the keyboard calls, or the known front is past `front` and `ends_rest` returns true.
 fn rest_once<T: RestingWire, K: Keyboard, S: Store>(
     host: &mut Host<'_, S>,
     endpoints: &mut Endpoints<T, K>,
@@ -86,10 +86,10 @@ fn rest_once<T: RestingWire, K: Keyboard, S: Store>(
     }
 }
 
-/// Hears what comes to a node that has nothing to do, until a place has become known, the keyboard
-/// calls, or the rest has taken its time (`ends_rest`). What a message asks for is done when it
-/// is heard, so it needs no tick; and a tick after each would make the other nodes tick in turn,
-/// without end.
+/// Hears what comes to a node that has nothing to do, until the rest has taken its time, the
+/// keyboard calls, or a place has become known and `ends_rest` returns true. What a message asks
+/// for is done when it is heard, so it needs no tick; and a tick after each would make the other
+/// nodes tick in turn, without end.
 fn rest<T: RestingWire, K: Keyboard, S: Store>(
     host: &mut Host<'_, S>,
     endpoints: &mut Endpoints<T, K>,

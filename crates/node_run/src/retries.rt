@@ -22,8 +22,8 @@ pub enum Retried {
     CampaignRefused(NodeFault),
 }
 
-/// Returns true if the node has no ballot because it was refused: a Refused has reported a greater
-/// one than the node has promised.
+/// Returns true if the node has no ballot, and the greatest ballot that a Refused has reported to
+/// it is above the one that it has promised.
 fn is_ballot_refused<S: Store>(node: &Node<'_, S>) -> bool
     ensures { IsTrue result ↔ IsBallotRefused node.now.protocol.known }
 {

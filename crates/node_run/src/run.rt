@@ -27,7 +27,7 @@ use std::time::Clock;
 pub struct NodeEnd<S> {
     /// The store, as the run has left it.
     pub store: S,
-    /// Whether all turns were made, or why they were not.
+    /// `Ok` if all turns were made and no write failed, or why the run ended.
     pub done: Result<(), GroupFault>,
 }
 
@@ -49,10 +49,10 @@ fn trace_end<T: Wire>(wire: &mut T, done: Result<(), GroupFault>) -> Result<(), 
 /// cycles as there are turns. It is a process of its group (`laws::cycles_are_a_run`): exactly what
 /// its deeds send and receive passes over the wire.
 ///
-/// What is typed is what the keyboard gave, each byte once and in order. `writer` gets each byte
-/// that the node has released, from number `seen` on, once and in order, and nothing else. If a
-/// write fails, the last of them are lost: at least one, and at most 256. At `Ok` all output of the
-/// machine is released.
+/// What is typed is what the keyboard gave, each byte once and in order. At `SerialSpent` the last
+/// bytes that the keyboard gave may be lost. `writer` gets each byte that the node has released,
+/// from number `seen` on, once and in order, and nothing else. If a write fails, the last of them
+/// are lost: at least one, and at most 256. At `Ok` all output of the machine is released.
 ///
 /// A start that is refused ends it, and nothing passes, nothing is typed, and nothing is written.
 /// Else it ends at the first failed save or write, if the plan's campaign is refused, or where a
@@ -94,7 +94,7 @@ pub fn run_node<H: Clock, T: CountedWire, K: Keyboard, S: Store + Drop, W: ByteW
     endpoints.wire.trace(&TraceEvent::Started);
     log.note_started(host.node().protocol(), group);
     let played = campaign_and_play(&mut host, plan, endpoints, writer, log);
-    // The machine is where a replay from the start is.
+    // For its contract: the machine is where a replay from the start is.
     host.unreleased();
     // It says what a restart may load of the store, and whose that is.
     host.node().record();

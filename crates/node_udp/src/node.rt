@@ -31,7 +31,8 @@ pub struct NodePlan<'a> {
     pub addresses: &'a [SocketAddr],
     /// How it is to run.
     pub run: RunPlan,
-    /// Where datagrams of typed bytes come, if not from the standard input.
+    /// The address at which typed bytes come as datagrams. If `None`, the node types what the
+    /// reader has left.
     pub keys: Option<SocketAddr>,
     /// The path of the node's trace, if it writes one: a line for each of its calls.
     pub trace: Option<&'a str>,
@@ -91,7 +92,7 @@ fn node_loaded<
         (R.remaining reader.new) (W.contents writer.old) (W.contents writer.new) result }
 {
     let config = Config::new(plan.node, plan.group.size, plan.group.session)?;
-    // There is such a node.
+    // For its contract: the group has a valid size and such a node.
     config.me();
     let text = input_of(rt.alloc(), plan, reader)?;
     run_opened(rt, program, config, plan, text.as_slice(), writer, log)

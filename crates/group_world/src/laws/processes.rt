@@ -35,8 +35,9 @@ pub fn events_of_logs_lead()
         → LeadsBy w events (after_log w log now) }
 {}
 
-/// What a list of events does some processes may do, with a log whose events these are: the law
-/// above leaves nothing out, and its premises can be met wherever events lead.
+/// If events lead from `w` to `v`, some log of processes leads there too, and these are its events
+/// (`MayBeLogged`). So `processes_are_events` leaves out no list of events, and its premise can be
+/// met whenever events lead.
 pub fn events_are_processes()
     ensures { (w v : World) (events : List Event) → LeadsBy w events v
         → MayBeLogged w events v }
@@ -69,9 +70,9 @@ pub fn processes_headline()
     rules_headline();
 }
 
-/// What a process has released since its start is on its console, in the same places: the console
-/// has at least as many bytes, and begins with the same ones. So what a process has written to its
-/// terminal, from a number on, is a part of the console of which the main theorem speaks.
+/// If a process is up, the bytes that it has released since its start are the first bytes of its
+/// console. The console may have more. So what a process has written to its terminal, from a number
+/// on, is a part of the console of which the main theorem speaks.
 pub fn processes_show()
     ensures shows { AlwaysOfProcesses ConsolesShowReleased }
 {
@@ -88,7 +89,8 @@ pub fn fronts_of_logs()
         → HasMoment w log more now }
 {}
 
-/// Entries of a node leave one node, and a log leaves one list of nodes.
+/// A node and its entries determine the node after them. A world and a log determine the nodes
+/// after it.
 pub fn logs_have_one_end()
     ensures node { (p : Parts) (me : Me) (m : Member) (entries : List Entry) (last other : Member)
         → IsHistory p me m entries last → IsHistory p me m entries other → other ≡ last }

@@ -24,8 +24,8 @@ use paxos_learner::laws::one_front;
 use paxos_msg::grammar::spelling_is_read;
 
 /// A world is sound before all events, and each deed of a node keeps it sound, if it hears only
-/// what was sent. In a sound world, a deed that is not refused is that deed in its group, by
-/// `WorldStep`, and one that is refused changes nothing.
+/// what was sent. In a sound world, a deed that is not refused is a step of the rules
+/// (`WorldStep`), and one that is refused changes nothing.
 pub fn deeds_keep_it_sound()
     ensures begins { (p : Parts) (group : Group) → IsSize group.size → IsGroup group
         → IsSound (new_world p group) }
@@ -47,8 +47,8 @@ pub fn deeds_keep_it_sound()
     spelling_is_read();
 }
 
-/// All that always holds of a world holds before all events, and each deed of a node keeps it, if
-/// it hears only what was sent: its nodes are sound, and it is a group by the rules.
+/// The invariant of a world (`Holds`) holds before all events, and each deed of a node keeps it, if
+/// the node hears only what was sent.
 pub fn deeds_keep_what_holds()
     ensures begins { (p : Parts) (group : Group) → IsSize group.size → IsGroup group
         → Holds (new_world p group) }
@@ -60,9 +60,9 @@ pub fn deeds_keep_what_holds()
     steps_keep_it();
 }
 
-/// A list of events and a log of processes lead from a sound world to a sound one, and by the rules
-/// from its group to the group after it. The world in which nothing has happened is the group in
-/// which nothing has happened.
+/// A list of events, and a log of processes, lead from a sound world to a sound one. Some deeds
+/// lead by the rules from the first to the second, as `world_state` shows them. `world_state` of
+/// a new world is `initial`.
 pub fn worlds_follow_the_rules()
     ensures first { (p : Parts) (group : Group)
         → world_state (new_world p group) ≡ initial p group.size }

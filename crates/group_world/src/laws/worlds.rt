@@ -58,8 +58,8 @@ pub fn later_worlds_agree()
     rules_headline();
 }
 
-/// The main theorem is not empty. A group of three runs a program that writes the letter A; events
-/// lead it to a world in which the consoles of two nodes show the letter.
+/// The main theorem is not empty. For some program and group, events lead to a world in which the
+/// consoles of nodes 1 and 2 show exactly the letter A.
 pub fn consoles_may_show()
     ensures { (p : Parts) × (group : Group) × (events : List Event) × (w : World)
         × IsSize group.size × IsGroup group × LeadsBy (new_world p group) events w
