@@ -15,7 +15,7 @@ use Rattle.group_protocol.specs.States.{IsSize}
 use Rattle.group_world.specs.Group.{member_at, new_world, world_state}
 use Rattle.group_world.specs.Member.{Member}
 use Rattle.group_world.specs.Processes.{Entry, sent_in, typed_in}
-use Rattle.group_process.specs.Runs.{AlwaysOfNodes, AlwaysOfRuns, Attempt, ConsolesAreReleased, ConsolesShowRuns, FailsToStart, GoesOn, IsGroupLog, IsLastIfOn, IsOver, LeaveNodes, NodeRun, Stand, Starts, node_after, node_by, run_output, state_after}
+use Rattle.group_process.specs.Runs.{AlwaysOfNodes, AlwaysOfRuns, NodeStart, ConsolesAreReleased, ConsolesShowRuns, FailsToStart, GoesOn, IsGroupLog, IsLastIfOn, IsOver, LeaveNodes, NodeRun, Stand, Starts, node_after, node_by, run_output, state_after}
 use Rattle.group_disk.specs.Restarts.{AreChosenRuns, AreRestarts, HasKeptLog, IsChosenLog, IsDiskLog, IsSameStand, found_after}
 use Rattle.group_disk.specs.Headline.{AlwaysOfDiskNodes, AlwaysOfDisks, AreSeenAlike, AreUpAsRun, DisksLeaveNodes, IsAfterDisks}
 
@@ -51,16 +51,16 @@ of_disks P always p group restarts log now size session h =
 
 -- ---- the nodes
 
-starts_same : (run : NodeRun) (a b : Stand) (rest others : List Attempt) → IsSameStand a b → IsLastIfOn a rest
+starts_same : (run : NodeRun) (a b : Stand) (rest others : List NodeStart) → IsSameStand a b → IsLastIfOn a rest
     → AreChosenRuns rest others → node_after None others ≡ node_after None rest
     → node_after (node_by run b) others ≡ node_after (node_by run a) rest
 starts_same run GoesOn b rest others same last chosen up =
-    let none : others ≡ [] = subst (λ (l : List Attempt). AreChosenRuns l others) last chosen in
+    let none : others ≡ [] = subst (λ (l : List NodeStart). AreChosenRuns l others) last chosen in
     ap (λ (s : Stand). node_after (node_by run s) others) same ∙ ap (node_after (node_by run GoesOn)) (none ∙ sym last)
 starts_same run (IsOver a) GoesOn rest others same last chosen up = absurd same
 starts_same run (IsOver a) (IsOver b) rest others same last chosen up = up
 
-up_same : (p : Parts) (me : Me) (restarts runs : List Attempt) (found : List Record) → AreRestarts p me found restarts
+up_same : (p : Parts) (me : Me) (restarts runs : List NodeStart) (found : List Record) → AreRestarts p me found restarts
     → AreChosenRuns restarts runs → node_after None runs ≡ node_after None restarts
 up_same p me [] runs found h is = ap (node_after None) is
 up_same p me (Starts run ∷ rest) runs found ((read, process, last), more) (stand, others, same, is, chosen) =
@@ -71,7 +71,7 @@ up_same p me (FailsToStart loaded b ∷ rest) runs found (first, more) (inl drop
 up_same p me (FailsToStart loaded b ∷ rest) runs found (first, more) (inr (others, is, chosen)) =
     ap (node_after None) is ∙ up_same p me rest others (found_after found (FailsToStart loaded b)) more chosen
 
-pub up_as_run : (p : Parts) (group : Group) (restarts : ℕ → List Attempt) (log : List Entry) (now : List Member)
+pub up_as_run : (p : Parts) (group : Group) (restarts : ℕ → List NodeStart) (log : List Entry) (now : List Member)
     → IsDiskLog p group restarts log → IsAfterDisks p group restarts log now → AreUpAsRun group restarts now
 up_as_run p group restarts log now disk h i node =
     let (m, there, stands) = h.after.as_run i node in (
@@ -92,21 +92,21 @@ is_run r run e = cc
 no_run : (loaded : Record) (b : _) (run : NodeRun) → ¬ (FailsToStart loaded b ≡ Starts run)
 no_run loaded b run e = cc
 
-chosen_has : (xs ys : List Attempt) (run : NodeRun) → AreChosenRuns xs ys → Contains xs (Starts run)
+chosen_has : (xs ys : List NodeStart) (run : NodeRun) → AreChosenRuns xs ys → Contains xs (Starts run)
     → (stand : Stand) × Contains ys (Starts (record run { stand = stand }))
 chosen_has [] ys run is there = absurd (none_in _ there)
 chosen_has (Starts r ∷ rest) ys run (stand, others, same, is, chosen) there =
     elim (in_cases (Starts r) rest (Starts run) there) [
       | inl e ↦ (
         stand,
-        subst (λ (l : List Attempt). Contains l (Starts (record run { stand = stand }))) (sym is)
+        subst (λ (l : List NodeStart). Contains l (Starts (record run { stand = stand }))) (sym is)
             (subst (λ (q : NodeRun). Contains (Starts (record r { stand = stand }) ∷ others) (Starts (record q { stand = stand })))
             (is_run r run e)
             (first_in _ others)),
       )
       | inr later ↦
           let (other, has) = chosen_has rest others run chosen later in
-          (other, subst (λ (l : List Attempt). Contains l (Starts (record run { stand = other }))) (sym is) (rest_in _ others _ has))
+          (other, subst (λ (l : List NodeStart). Contains l (Starts (record run { stand = other }))) (sym is) (rest_in _ others _ has))
     ]
 chosen_has (FailsToStart loaded b ∷ rest) ys run chosen there =
     elim (in_cases (FailsToStart loaded b) rest (Starts run) there) [
@@ -115,23 +115,23 @@ chosen_has (FailsToStart loaded b ∷ rest) ys run chosen there =
         | inl dropped ↦ chosen_has rest ys run dropped later
         | inr (others, is, more) ↦
             let (other, has) = chosen_has rest others run more later in
-            (other, subst (λ (l : List Attempt). Contains l (Starts (record run { stand = other }))) (sym is) (rest_in _ others _ has))
+            (other, subst (λ (l : List NodeStart). Contains l (Starts (record run { stand = other }))) (sym is) (rest_in _ others _ has))
       ]
     ]
 
-has_chosen : (xs ys : List Attempt) (run : NodeRun) → AreChosenRuns xs ys → Contains ys (Starts run)
+has_chosen : (xs ys : List NodeStart) (run : NodeRun) → AreChosenRuns xs ys → Contains ys (Starts run)
     → (from : NodeRun) × Contains xs (Starts from) × (run_output run ≡ run_output from)
-has_chosen [] ys run is there = absurd (none_in _ (subst (λ (l : List Attempt). Contains l (Starts run)) is there))
+has_chosen [] ys run is there = absurd (none_in _ (subst (λ (l : List NodeStart). Contains l (Starts run)) is there))
 has_chosen (Starts r ∷ rest) ys run (stand, others, same, is, chosen) there =
     elim (in_cases (Starts (record r { stand = stand })) others (Starts run)
-    (subst (λ (l : List Attempt). Contains l (Starts run)) is there)) [
+    (subst (λ (l : List NodeStart). Contains l (Starts run)) is there)) [
       | inl e ↦ (r, first_in _ rest, ap run_output (sym (is_run (record r { stand = stand }) run e)))
       | inr later ↦ let (from, has, out) = has_chosen rest others run chosen later in (from, rest_in _ rest _ has, out)
     ]
 has_chosen (FailsToStart loaded b ∷ rest) ys run (inl dropped) there =
     let (from, has, out) = has_chosen rest ys run dropped there in (from, rest_in _ rest _ has, out)
 has_chosen (FailsToStart loaded b ∷ rest) ys run (inr (others, is, more)) there =
-    elim (in_cases _ others (Starts run) (subst (λ (l : List Attempt). Contains l (Starts run)) is there)) [
+    elim (in_cases _ others (Starts run) (subst (λ (l : List NodeStart). Contains l (Starts run)) is there)) [
       | inl e ↦ absurd (no_run loaded _ run e)
       | inr later ↦ let (from, has, out) = has_chosen rest others run more later in (from, rest_in _ rest _ has, out)
     ]
@@ -152,11 +152,11 @@ released_over_disks always p group restarts log now size session h i m at =
 
 -- ---- the nodes that there are
 
-pub disks_leave : ((p : Parts) (group : Group) (restarts : ℕ → List Attempt) (log : List Entry) → IsDiskLog p group restarts log
+pub disks_leave : ((p : Parts) (group : Group) (restarts : ℕ → List NodeStart) (log : List Entry) → IsDiskLog p group restarts log
     → HasKeptLog p group restarts log)
-    → ((p : Parts) (group : Group) (runs : ℕ → List Attempt) (log : List Entry) → IsGroupLog p group runs log
+    → ((p : Parts) (group : Group) (runs : ℕ → List NodeStart) (log : List Entry) → IsGroupLog p group runs log
     → LeaveNodes p group runs log)
-    → (p : Parts) (group : Group) (restarts : ℕ → List Attempt) (log : List Entry) → IsDiskLog p group restarts log
+    → (p : Parts) (group : Group) (restarts : ℕ → List NodeStart) (log : List Entry) → IsDiskLog p group restarts log
     → DisksLeaveNodes p group restarts log
 disks_leave kept_logs nodes p group restarts log h =
     let (runs, kept, is) = kept_logs p group restarts log h in
@@ -169,7 +169,7 @@ some_is : (m n : Member) → Some m ≡ Some n → m ≡ n
 some_is m n e = cc
 
 module _ (shows : AlwaysOfDiskNodes ConsolesShowRuns) (released : AlwaysOfDiskNodes ConsolesAreReleased)
-    (both : (a b : List ℕ) → IsPrefix a b → IsPrefix b a → a ≡ b) (p : Parts) (group : Group) (restarts : ℕ → List Attempt)
+    (both : (a b : List ℕ) → IsPrefix a b → IsPrefix b a → a ≡ b) (p : Parts) (group : Group) (restarts : ℕ → List NodeStart)
     (log : List Entry) (size : IsSize group.size) (session : IsGroup group) where
   console_below : (now other : List Member) → IsAfterDisks p group restarts log now → IsAfterDisks p group restarts log other
       → (i : ℕ) (m n : Member) → member_at now i ≡ Some m → member_at other i ≡ Some n → IsPrefix m.console n.console

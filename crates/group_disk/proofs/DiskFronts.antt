@@ -7,7 +7,7 @@ use Rattle.paxos_msg.specs.declared.message.Group.{Group}
 use Rattle.paxos_msg.specs.Batches.{Record}
 use Rattle.paxos_msg.specs.Records.{empty_record}
 use Rattle.paxos_acceptor.specs.declared.me.Me.{Me}
-use Rattle.group_process.specs.Runs.{AreFirstRuns, Attempt}
+use Rattle.group_process.specs.Runs.{AreFirstRuns, NodeStart}
 use Rattle.group_process.proofs.RunFronts.{FrontOf, MayBeCut, all_of_front, carried_front, cut_starts}
 use Rattle.group_disk.specs.Restarts.{IsDiskLog, IsRestart, found_after}
 use Rattle.group_disk.specs.Headline.{HasFirstStarts}
@@ -15,7 +15,7 @@ use Rattle.group_world.specs.Processes.{Entry, entries_of}
 
 module _ (p : Parts) (me : Me) where
   -- a run that goes on stays the last one
-  still_restart : (found : List Record) (a : Attempt) (rest cut : List Attempt) → IsRestart p me found a rest → AreFirstRuns cut rest
+  still_restart : (found : List Record) (a : NodeStart) (rest cut : List NodeStart) → IsRestart p me found a rest → AreFirstRuns cut rest
       → IsRestart p me found a cut
   still_restart found a rest [] start some = grind arith
   still_restart found a rest (b ∷ cut) start some = grind arith
@@ -28,10 +28,10 @@ module _ (p : Parts) (me : Me) where
   }
 
   -- the first starts of a node, with these entries
-  abbrev FirstOf : List Attempt → List Entry → Type 0
+  abbrev FirstOf : List NodeStart → List Entry → Type 0
   FirstOf restarts es = FrontOf p me (IsRestart p me) found_after starts_may_be_cut restarts (empty_record ∷ []) es
 
-pub log_front : (p : Parts) (group : Group) (restarts : ℕ → List Attempt) (log more : List Entry)
+pub log_front : (p : Parts) (group : Group) (restarts : ℕ → List NodeStart) (log more : List Entry)
     → IsDiskLog p group restarts (log ++ more) → HasFirstStarts p group restarts log
 log_front p group restarts log more h =
     let me : ℕ → Me = λ i. record { node = i; group = group } in

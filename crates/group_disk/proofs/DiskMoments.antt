@@ -23,8 +23,8 @@ use Rattle.group_world.specs.declared.event.Outcome.TheVariants.{Kept}
 use Rattle.group_world.specs.Group.{member_at, seat_of_member, up_of}
 use Rattle.group_world.specs.Member.{Member}
 use Rattle.group_world.specs.Processes.{Entry, entries_of, quiet_entry}
-use Rattle.group_process.proofs.RunFronts.{still_attempt}
-use Rattle.group_process.specs.Runs.{AlwaysLaterOfRuns, AreFirstRuns, AreRuns, Attempt, FailsToStart, IsAfterRuns, IsAttempt, IsCutOff, IsCutStart, IsGroupLog, IsLastIfOn, LeaveNodes, NodeRun, Stand, Starts, ends_by, entries_of_attempt, entry_by, record_left, state_after}
+use Rattle.group_process.proofs.RunFronts.{still_start}
+use Rattle.group_process.specs.Runs.{AlwaysLaterOfRuns, AreFirstRuns, AreStarts, NodeStart, FailsToStart, IsAfterRuns, IsStartOver, IsCutOff, IsCutStart, IsGroupLog, IsLastIfOn, LeaveNodes, NodeRun, Stand, Starts, ends_by, entries_of_start, entry_by, record_left, state_after}
 use Rattle.group_disk.specs.Restarts.{AreChosenRuns, AreRestarts, IsChosenLog, IsDiskLog, IsRestart, IsSameStand, found_after}
 use Rattle.group_disk.specs.Headline.{AlwaysLaterOfDisks, AreMomentsOfDisks, AreSeenAlike, IsAfterDisks}
 use Rattle.group_disk.proofs.DiskClaims.{state_same}
@@ -33,23 +33,23 @@ use Rattle.group_disk.proofs.KeptLogs.{all_chosen, chosen_all, chosen_append, ch
 -- ---- the starts of one node
 
 module _ (p : Parts) (me : Me) where
-  abbrev entries : List Attempt → List Entry
-  entries starts = flat_map (entries_of_attempt me) starts
+  abbrev entries : List NodeStart → List Entry
+  entries starts = flat_map (entries_of_start me) starts
 
   -- The first of the runs, which are chosen of the first of the starts, and the entries that are
   -- left of both.
-  pub record CutOfBoth (cut restarts runs : List Attempt) (kept : Record) : Type 0 where
-    pub front : List Attempt
+  pub record CutOfBoth (cut restarts runs : List NodeStart) (kept : Record) : Type 0 where
+    pub front : List NodeStart
     pub rest : List Entry
     pub left : List Entry
     pub starts : entries restarts ≡ entries cut ++ rest
     pub ran : entries runs ≡ entries front ++ left
     pub same : IsChosenLog rest left
     pub chosen : AreChosenRuns cut front
-    pub are : AreRuns p me kept front
+    pub are : AreStarts p me kept front
     pub first : AreFirstRuns front runs
 
-  cut_at_first : (restarts runs : List Attempt) (kept : Record) → AreChosenRuns restarts runs → CutOfBoth [] restarts runs kept
+  cut_at_first : (restarts runs : List NodeStart) (kept : Record) → AreChosenRuns restarts runs → CutOfBoth [] restarts runs kept
   cut_at_first restarts runs kept chosen = record {
     front = [];
     rest = entries restarts;
@@ -66,20 +66,20 @@ module _ (p : Parts) (me : Me) where
   abbrev stood : NodeRun → Stand → NodeRun
   stood run stand = record run { stand = stand }
 
-  cut_after_run : (run : NodeRun) (stand : Stand) (cut restarts others : List Attempt) (kept : Record) → IsSameStand run.stand stand
-      → IsAttempt p me kept (Starts (stood run stand)) others → CutOfBoth cut restarts others (record_left (Starts (stood run stand)))
+  cut_after_run : (run : NodeRun) (stand : Stand) (cut restarts others : List NodeStart) (kept : Record) → IsSameStand run.stand stand
+      → IsStartOver p me kept (Starts (stood run stand)) others → CutOfBoth cut restarts others (record_left (Starts (stood run stand)))
       → CutOfBoth (Starts run ∷ cut) (Starts run ∷ restarts) (Starts (stood run stand) ∷ others) kept
-  cut_after_run run stand cut restarts others kept same attempt c = record {
+  cut_after_run run stand cut restarts others kept same over c = record {
     front = Starts (stood run stand) ∷ c.front;
     rest = c.rest;
     left = c.left;
-    starts = ap (λ l. entries_of_attempt me (Starts run) ++ l) c.starts
-        ∙ sym (append_assoc (entries_of_attempt me (Starts run)) (entries cut) c.rest);
-    ran = ap (λ l. entries_of_attempt me (Starts (stood run stand)) ++ l) c.ran
-        ∙ sym (append_assoc (entries_of_attempt me (Starts (stood run stand))) (entries c.front) c.left);
+    starts = ap (λ l. entries_of_start me (Starts run) ++ l) c.starts
+        ∙ sym (append_assoc (entries_of_start me (Starts run)) (entries cut) c.rest);
+    ran = ap (λ l. entries_of_start me (Starts (stood run stand)) ++ l) c.ran
+        ∙ sym (append_assoc (entries_of_start me (Starts (stood run stand))) (entries c.front) c.left);
     same = c.same;
     chosen = (stand, c.front, same, refl, c.chosen);
-    are = (still_attempt p me kept (Starts (stood run stand)) others c.front attempt c.first, c.are);
+    are = (still_start p me kept (Starts (stood run stand)) others c.front over c.first, c.are);
     first = inl (refl, c.first);
   }
 
@@ -92,7 +92,7 @@ module _ (p : Parts) (me : Me) where
   in_parts start front rest ends more = grind (arith, append-nil, append_assoc)
 
   parts_of_run : (cut run : NodeRun) (off : IsCutOff cut run) (stand : Stand) (more : List Entry)
-      → entries_of_attempt me (Starts (stood run stand)) ++ more ≡ entries (Starts cut ∷ []) ++ after_cut run off.rest stand more
+      → entries_of_start me (Starts (stood run stand)) ++ more ≡ entries (Starts cut ∷ []) ++ after_cut run off.rest stand more
   parts_of_run cut run off stand more =
       let deeds : List Doing → List Entry = λ ds. map (entry_by me.node Kept) ds in
       let start : Record → Entry = λ r. quiet_entry me.node (Start r) in
@@ -103,11 +103,11 @@ module _ (p : Parts) (me : Me) where
       ∙ ap (λ (r : Record). ((start r ∷ (deeds cut.process.doings ++ [])) ++ []) ++ later) (sym off.loaded)
       ∙ ap (λ (s : Stand). ((start cut.process.loaded ∷ (deeds cut.process.doings ++ ends_by me cut s)) ++ []) ++ later) (sym off.goes_on)
 
-  cut_in_run : (cut run : NodeRun) (stand : Stand) (restarts others : List Attempt) (kept : Record) → IsCutOff cut run
-      → IsSameStand run.stand stand → IsProcess p me cut.process cut.last → IsAttempt p me kept (Starts (stood run stand)) others
+  cut_in_run : (cut run : NodeRun) (stand : Stand) (restarts others : List NodeStart) (kept : Record) → IsCutOff cut run
+      → IsSameStand run.stand stand → IsProcess p me cut.process cut.last → IsStartOver p me kept (Starts (stood run stand)) others
       → AreChosenRuns restarts others
       → CutOfBoth (Starts cut ∷ []) (Starts run ∷ restarts) (Starts (stood run stand) ∷ others) kept
-  cut_in_run cut run stand restarts others kept off same process attempt chosen = record {
+  cut_in_run cut run stand restarts others kept off same process over chosen = record {
     front = Starts cut ∷ [];
     rest = after_cut run off.rest run.stand (entries restarts);
     left = after_cut run off.rest stand (entries others);
@@ -119,32 +119,32 @@ module _ (p : Parts) (me : Me) where
         (chosen_append deeds deeds (ends_by me run run.stand) (ends_by me run stand) (chosen_same deeds)
         (ends_chosen me run run.stand stand same)) (all_chosen me restarts others chosen);
     chosen = (cut.stand, [], subst (λ (s : Stand). IsSameStand s s) (sym off.goes_on) refl, refl, refl);
-    are = ((off.loaded ∙ attempt.0, process, subst (λ (s : Stand). IsLastIfOn s []) (sym off.goes_on) refl), tt);
+    are = ((off.loaded ∙ over.0, process, subst (λ (s : Stand). IsLastIfOn s []) (sym off.goes_on) refl), tt);
     first = inr (
       refl,
       record { loaded = off.loaded; rest = off.rest; doings = off.doings; failed = off.failed; goes_on = off.goes_on },
     );
   }
 
-  cut_in_start : (a : Attempt) (run : NodeRun) (stand : Stand) (found : List Record) (rest restarts others : List Attempt) (kept : Record)
-      → IsCutStart a (Starts run) → IsRestart p me found a rest → IsSameStand run.stand stand
-      → IsAttempt p me kept (Starts (stood run stand)) others → AreChosenRuns restarts others
+  cut_in_start : (a : NodeStart) (run : NodeRun) (stand : Stand) (found : List Record) (rest restarts others : List NodeStart)
+      (kept : Record) → IsCutStart a (Starts run) → IsRestart p me found a rest → IsSameStand run.stand stand
+      → IsStartOver p me kept (Starts (stood run stand)) others → AreChosenRuns restarts others
       → CutOfBoth (a ∷ []) (Starts run ∷ restarts) (Starts (stood run stand) ∷ others) kept
-  cut_in_start (Starts cut) run stand found rest restarts others kept off start same attempt chosen =
-      cut_in_run cut run stand restarts others kept off same start.1 attempt chosen
-  cut_in_start (FailsToStart loaded b) run stand found rest restarts others kept off start same attempt chosen = absurd off
+  cut_in_start (Starts cut) run stand found rest restarts others kept off start same over chosen =
+      cut_in_run cut run stand restarts others kept off same start.1 over chosen
+  cut_in_start (FailsToStart loaded b) run stand found rest restarts others kept off start same over chosen = absurd off
 
-  uncut : (a : Attempt) (loaded : Record) (b : _) → ¬ IsCutStart a (FailsToStart loaded b)
+  uncut : (a : NodeStart) (loaded : Record) (b : _) → ¬ IsCutStart a (FailsToStart loaded b)
   uncut (Starts cut) loaded b off = off
   uncut (FailsToStart other c) loaded b off = off
 
-  cut_after_dropped : (loaded : Record) (b : _) (cut restarts runs : List Attempt) (kept : Record) → CutOfBoth cut restarts runs kept
+  cut_after_dropped : (loaded : Record) (b : _) (cut restarts runs : List NodeStart) (kept : Record) → CutOfBoth cut restarts runs kept
       → CutOfBoth (FailsToStart loaded b ∷ cut) (FailsToStart loaded b ∷ restarts) runs kept
   cut_after_dropped loaded b cut restarts runs kept c = record {
     front = c.front;
     rest = c.rest;
     left = c.left;
-    starts = ap (λ l. entries_of_attempt me (FailsToStart loaded b) ++ l) c.starts;
+    starts = ap (λ l. entries_of_start me (FailsToStart loaded b) ++ l) c.starts;
     ran = c.ran;
     same = c.same;
     chosen = inl c.chosen;
@@ -152,46 +152,46 @@ module _ (p : Parts) (me : Me) where
     first = c.first;
   }
 
-  cut_after_made : (loaded : Record) (b : _) (cut restarts others : List Attempt) (kept : Record)
-      → IsAttempt p me kept (FailsToStart loaded true) others
+  cut_after_made : (loaded : Record) (b : _) (cut restarts others : List NodeStart) (kept : Record)
+      → IsStartOver p me kept (FailsToStart loaded true) others
       → CutOfBoth cut restarts others (record_left (FailsToStart loaded true))
       → CutOfBoth (FailsToStart loaded b ∷ cut) (FailsToStart loaded b ∷ restarts) (FailsToStart loaded true ∷ others) kept
-  cut_after_made loaded b cut restarts others kept attempt c = record {
+  cut_after_made loaded b cut restarts others kept over c = record {
     front = FailsToStart loaded true ∷ c.front;
     rest = c.rest;
     left = c.left;
-    starts = ap (λ l. entries_of_attempt me (FailsToStart loaded b) ++ l) c.starts;
-    ran = ap (λ l. entries_of_attempt me (FailsToStart loaded true) ++ l) c.ran;
+    starts = ap (λ l. entries_of_start me (FailsToStart loaded b) ++ l) c.starts;
+    ran = ap (λ l. entries_of_start me (FailsToStart loaded true) ++ l) c.ran;
     same = c.same;
     chosen = inr (c.front, refl, c.chosen);
-    are = (attempt, c.are);
+    are = (over, c.are);
     first = inl (refl, c.first);
   }
 
-  pub cut_of_both : (cut restarts runs : List Attempt) (found : List Record) (kept : Record) → AreFirstRuns cut restarts
-      → AreChosenRuns restarts runs → AreRestarts p me found cut → AreRuns p me kept runs → CutOfBoth cut restarts runs kept
+  pub cut_of_both : (cut restarts runs : List NodeStart) (found : List Record) (kept : Record) → AreFirstRuns cut restarts
+      → AreChosenRuns restarts runs → AreRestarts p me found cut → AreStarts p me kept runs → CutOfBoth cut restarts runs kept
   cut_of_both [] restarts runs found kept first chosen starts are = cut_at_first restarts runs kept chosen
   cut_of_both (a ∷ cut) [] runs found kept first chosen starts are = absurd first
   cut_of_both (a ∷ cut) (Starts run ∷ restarts) runs found kept first (stand, others, same, is, chosen) (start, later) are =
-      let both : AreRuns p me kept (Starts (stood run stand) ∷ others) = subst (AreRuns p me kept) is are in
-      subst (λ (l : List Attempt). CutOfBoth (a ∷ cut) (Starts run ∷ restarts) l kept) (sym is) (elim first [
+      let both : AreStarts p me kept (Starts (stood run stand) ∷ others) = subst (AreStarts p me kept) is are in
+      subst (λ (l : List NodeStart). CutOfBoth (a ∷ cut) (Starts run ∷ restarts) l kept) (sym is) (elim first [
         | inl (e, some) ↦
-            subst (λ (x : Attempt). CutOfBoth (x ∷ cut) (Starts run ∷ restarts) (Starts (stood run stand) ∷ others) kept) (sym e)
+            subst (λ (x : NodeStart). CutOfBoth (x ∷ cut) (Starts run ∷ restarts) (Starts (stood run stand) ∷ others) kept) (sym e)
             (cut_after_run run stand cut restarts others kept same both.0
             (cut_of_both cut restarts others (found_after found a) (record_left (Starts (stood run stand))) some chosen later both.1))
         | inr (none, off) ↦
-            subst (λ (l : List Attempt). CutOfBoth (a ∷ l) (Starts run ∷ restarts) (Starts (stood run stand) ∷ others) kept) (sym none)
+            subst (λ (l : List NodeStart). CutOfBoth (a ∷ l) (Starts run ∷ restarts) (Starts (stood run stand) ∷ others) kept) (sym none)
             (cut_in_start a run stand found cut restarts others kept off start same both.0 chosen)
       ])
   cut_of_both (a ∷ cut) (FailsToStart loaded b ∷ restarts) runs found kept first chosen (start, later) are = elim first [
     | inl (e, some) ↦
-        subst (λ (x : Attempt). CutOfBoth (x ∷ cut) (FailsToStart loaded b ∷ restarts) runs kept) (sym e) (elim chosen [
+        subst (λ (x : NodeStart). CutOfBoth (x ∷ cut) (FailsToStart loaded b ∷ restarts) runs kept) (sym e) (elim chosen [
           | inl dropped ↦
               cut_after_dropped loaded b cut restarts runs kept
               (cut_of_both cut restarts runs (found_after found a) kept some dropped later are)
           | inr (others, is, made) ↦
-              let both : AreRuns p me kept (FailsToStart loaded true ∷ others) = subst (AreRuns p me kept) is are in
-              subst (λ (l : List Attempt). CutOfBoth (FailsToStart loaded b ∷ cut) (FailsToStart loaded b ∷ restarts) l kept) (sym is)
+              let both : AreStarts p me kept (FailsToStart loaded true ∷ others) = subst (AreStarts p me kept) is are in
+              subst (λ (l : List NodeStart). CutOfBoth (FailsToStart loaded b ∷ cut) (FailsToStart loaded b ∷ restarts) l kept) (sym is)
               (cut_after_made loaded b cut restarts others kept both.0
               (cut_of_both cut restarts others (found_after found a) (record_left (FailsToStart loaded true)) some made later both.1))
         ])
@@ -209,7 +209,7 @@ node_there now size (suc k) m long at =
 
 module _ (p : Parts) (group : Group) where
   -- the same runs, with the entries of different nodes in another order
-  reordered : (runs : ℕ → List Attempt) (kept other : List Entry) (now : List Member) → IsAfterRuns p group runs kept now
+  reordered : (runs : ℕ → List NodeStart) (kept other : List Entry) (now : List Member) → IsAfterRuns p group runs kept now
       → IsGroupLog p group runs other → IsAfterRuns p group runs other now
   reordered runs kept other now h g = record {
     ran = g;
@@ -227,14 +227,14 @@ module _ (p : Parts) (group : Group) where
       there [] none = tt
       there (e ∷ log) (node, others) = (((h.as_run e.node node).0, (h.as_run e.node node).1), there log others)
 
-  places : (runs : ℕ → List Attempt) (log : List Entry) (now : List Member) → IsAfterRuns p group runs log now
+  places : (runs : ℕ → List NodeStart) (log : List Entry) (now : List Member) → IsAfterRuns p group runs log now
       → length now ≡ group.size
   places runs log now h = h.nodes.places ∙ length-replicate group.size (record { kept = empty_record; console = []; node = None })
 
-module _ (p : Parts) (group : Group) (cut restarts : ℕ → List Attempt) (log more : List Entry)
-    (moments : AreMomentsOfDisks p group cut restarts log more) (runs : ℕ → List Attempt)
+module _ (p : Parts) (group : Group) (cut restarts : ℕ → List NodeStart) (log more : List Entry)
+    (moments : AreMomentsOfDisks p group cut restarts log more) (runs : ℕ → List NodeStart)
     (chosen : (i : ℕ) → AreChosenRuns (restarts i) (runs i))
-    (are : (i : ℕ) → AreRuns p (record { node = i; group = group }) empty_record (runs i)) where
+    (are : (i : ℕ) → AreStarts p (record { node = i; group = group }) empty_record (runs i)) where
   abbrev pub me : ℕ → Me
   me i = record { node = i; group = group }
 
@@ -256,8 +256,8 @@ module _ (p : Parts) (group : Group) (cut restarts : ℕ → List Attempt) (log 
 
   pub are_woven : (front : List Entry) × (back : List Entry) × IsWoven front back
   are_woven =
-      let (front, same, ones) = woven log (λ i. flat_map (entries_of_attempt (me i)) (both i).front)
-      (λ i. subst (λ (l : List Entry). IsChosenLog l (flat_map (entries_of_attempt (me i)) (both i).front)) (sym (moments.before.entries i))
+      let (front, same, ones) = woven log (λ i. flat_map (entries_of_start (me i)) (both i).front)
+      (λ i. subst (λ (l : List Entry). IsChosenLog l (flat_map (entries_of_start (me i)) (both i).front)) (sym (moments.before.entries i))
       (all_chosen (me i) (cut i) (both i).front (both i).chosen)) in
       let (back, rest, others) = woven more (λ i. (both i).left)
       (λ i. subst (λ (l : List Entry). IsChosenLog l (both i).left) (sym (later i)) (both i).same) in
@@ -275,7 +275,7 @@ module _ (p : Parts) (group : Group) (cut restarts : ℕ → List Attempt) (log 
             among = chosen_all _ (log ++ more) (front ++ back) whole moments.all.among;
             entries = λ i. filter-append (λ (e : Entry). e.node == i) front back
                 ∙ (ap (λ l. l ++ entries_of i back) (ones i)
-                ∙ (ap (λ l. flat_map (entries_of_attempt (me i)) (both i).front ++ l) (others i) ∙ sym (both i).ran));
+                ∙ (ap (λ l. flat_map (entries_of_start (me i)) (both i).front ++ l) (others i) ∙ sym (both i).ran));
             started = are;
             carried = chosen_carried group [] (log ++ more) (front ++ back) whole moments.all.carried;
           };
@@ -302,7 +302,7 @@ seat_alike (Some x) (Some y) one other same =
     let (console, node) = same x y refl refl in
     (console, ap (option_map up_of) node)
 
-module _ (p : Parts) (group : Group) (runs others : ℕ → List Attempt) (log front : List Entry) (mid other : List Member)
+module _ (p : Parts) (group : Group) (runs others : ℕ → List NodeStart) (log front : List Entry) (mid other : List Member)
     (h : IsAfterRuns p group runs log mid) (g : IsAfterRuns p group others front other) (same : AreSeenAlike group mid other) where
   seats_at : (i : ℕ)
       → ((seat_of_member (member_at mid i)).console ≡ (seat_of_member (member_at other i)).console)
@@ -330,13 +330,13 @@ stays_by_seats w u v same stays i j s a b one other =
 
 -- all choices of what a log leaves are seen alike
 abbrev pub AlikeLaw : Type 0
-AlikeLaw = (p : Parts) (group : Group) (restarts : ℕ → List Attempt) (log : List Entry) (now other : List Member) → IsSize group.size
+AlikeLaw = (p : Parts) (group : Group) (restarts : ℕ → List NodeStart) (log : List Entry) (now other : List Member) → IsSize group.size
     → IsGroup group → IsDiskLog p group restarts log → IsAfterDisks p group restarts log now
     → IsAfterDisks p group restarts log other → AreSeenAlike group now other
 
 -- a log of runs leaves nodes
 abbrev pub NodesLaw : Type 0
-NodesLaw = (p : Parts) (group : Group) (runs : ℕ → List Attempt) (log : List Entry) → IsGroupLog p group runs log
+NodesLaw = (p : Parts) (group : Group) (runs : ℕ → List NodeStart) (log : List Entry) → IsGroupLog p group runs log
     → LeaveNodes p group runs log
 
 pub later_of_disks : NodesLaw → AlikeLaw → (P : WorldState → WorldState → Type 0) → SeesSeats P → AlwaysLaterOfRuns P
@@ -344,7 +344,7 @@ pub later_of_disks : NodesLaw → AlikeLaw → (P : WorldState → WorldState �
 later_of_disks nodes alike P sees always p group cut restarts log more mid now size session moments first last =
     let ran : IsGroupLog p group last.runs last.kept = last.chosen.ran in
     let (front, back, is) = are_woven p group cut restarts log more moments last.runs last.chosen.chosen ran.started in
-    let runs : ℕ → List Attempt = λ i. (both p group cut restarts log more moments last.runs last.chosen.chosen ran.started i).front in
+    let runs : ℕ → List NodeStart = λ i. (both p group cut restarts log more moments last.runs last.chosen.chosen ran.started i).front in
     let (other, then) = nodes p group runs front is.first in
     let after : IsAfterRuns p group last.runs (front ++ back) now = reordered p group last.runs last.kept (front ++ back) now
     last.after is.all in

@@ -5,12 +5,12 @@ use Rattle.paxos_msg.specs.declared.message.Group.{Group}
 use Rattle.paxos_acceptor.specs.declared.me.Me.{Me}
 use Rattle.paxos_disk.specs.Disks.{Folder}
 use Rattle.group_process.specs.Network.{AreEntriesOf, AreProcesses, GivenEntry, IsDeliveredLog, entries_alone}
-use Rattle.group_process.specs.Runs.{Attempt, FailsToStart, Starts}
+use Rattle.group_process.specs.Runs.{NodeStart, FailsToStart, Starts}
 use Rattle.group_disk.specs.Folders.{AreOverDisk, DiskStart, IsFolderLog, IsNetworkFolderLog, IsOverDisk, start_over, starts_of}
 
 module _ (p : Parts) (me : Me) where
   -- one start more
-  one_more : (a : Attempt) (before after : Folder) (rest : List DiskStart) (more : List Attempt)
+  one_more : (a : NodeStart) (before after : Folder) (rest : List DiskStart) (more : List NodeStart)
       → IsOverDisk p me (start_over before a after) rest → AreProcesses p me more → AreProcesses p me (a ∷ more)
   one_more (Starts run) before after rest more (loads, is, last, leaves) others = (is, others)
   one_more (FailsToStart loaded is_changed) before after rest more h others = others

@@ -12,12 +12,12 @@ use Rattle.paxos_acceptor.specs.declared.me.Me.{Me}
 use Rattle.paxos_disk.specs.Disks.{Folder, MayFind}
 use Rattle.paxos_disk.specs.Found.{LoadsOnly}
 use Rattle.group_protocol.proofs.Elements.{first_in, rest_in}
-use Rattle.group_process.specs.Runs.{Attempt, FailsToStart, Starts}
+use Rattle.group_process.specs.Runs.{NodeStart, FailsToStart, Starts}
 use Rattle.group_disk.specs.Folders.{AreOverDisk, DiskStart, IsFolderLog, IsNew, IsOverDisk, starts_of}
 use Rattle.group_disk.specs.Restarts.{AreRestarts, IsDiskLog, IsRestart, found_after}
 
 module _ (p : Parts) (me : Me) where
-  start_is : (a : Attempt) (before after : Folder) (rest : List DiskStart) (found : List Record) → LoadsOnly before found
+  start_is : (a : NodeStart) (before after : Folder) (rest : List DiskStart) (found : List Record) → LoadsOnly before found
       → IsOverDisk p me (record { before = before; start = a; after = after }) rest
       → IsRestart p me found a (starts_of rest) × LoadsOnly after (found_after found a)
   start_is (Starts run) before after rest found only (loads, process, last, leaves) =

@@ -12,7 +12,7 @@ use Rattle.group_wire.specs.Doings.{Doing}
 use Rattle.group_world.specs.declared.event.Outcome.{Outcome}
 use Rattle.group_world.specs.declared.event.Outcome.TheVariants.{Kept}
 use Rattle.group_world.specs.Processes.{Entry, IsCarried, entries_of}
-use Rattle.group_process.specs.Runs.{Attempt, FailsToStart, GoesOn, IsOver, NodeRun, Stand, Starts, ends_by, entries_of_attempt, entry_by, failed_as, run_end}
+use Rattle.group_process.specs.Runs.{NodeStart, FailsToStart, GoesOn, IsOver, NodeRun, Stand, Starts, ends_by, entries_of_start, entry_by, failed_as, run_end}
 use Rattle.group_disk.specs.Restarts.{AreChosenRuns, HasKeptLog, HaveRuns, IsChosenLog, IsDiskLog, IsSameStand}
 
 -- ---- entries of one node
@@ -38,7 +38,7 @@ module _ (me : Me) where
   ends_chosen run (IsOver a) (IsOver b) any = end_chosen a b run.process.failed
 
   run_chosen : (run : NodeRun) (stand : Stand) → IsSameStand run.stand stand
-      → IsChosenLog (entries_of_attempt me (Starts run)) (entries_of_attempt me (Starts (record run { stand = stand })))
+      → IsChosenLog (entries_of_start me (Starts run)) (entries_of_start me (Starts (record run { stand = stand })))
   run_chosen run stand same =
       let deeds = map (entry_by me.node Kept) run.process.doings in
       inr (
@@ -49,20 +49,20 @@ module _ (me : Me) where
             (ends_chosen run run.stand stand same),
       )
 
-  pub all_chosen : (xs bs : List Attempt) → AreChosenRuns xs bs
-      → IsChosenLog (flat_map (entries_of_attempt me) xs) (flat_map (entries_of_attempt me) bs)
-  all_chosen [] bs is = subst (λ (l : List Attempt). IsChosenLog [] (flat_map (entries_of_attempt me) l)) (sym is) refl
+  pub all_chosen : (xs bs : List NodeStart) → AreChosenRuns xs bs
+      → IsChosenLog (flat_map (entries_of_start me) xs) (flat_map (entries_of_start me) bs)
+  all_chosen [] bs is = subst (λ (l : List NodeStart). IsChosenLog [] (flat_map (entries_of_start me) l)) (sym is) refl
   all_chosen (Starts run ∷ rest) bs (stand, others, same, is, more) =
-      subst (λ (l : List Attempt). IsChosenLog (flat_map (entries_of_attempt me) (Starts run ∷ rest)) (flat_map (entries_of_attempt me) l))
+      subst (λ (l : List NodeStart). IsChosenLog (flat_map (entries_of_start me) (Starts run ∷ rest)) (flat_map (entries_of_start me) l))
       (sym is)
-      (chosen_append (entries_of_attempt me (Starts run)) (entries_of_attempt me (Starts (record run { stand = stand }))) _ _
+      (chosen_append (entries_of_start me (Starts run)) (entries_of_start me (Starts (record run { stand = stand }))) _ _
       (run_chosen run stand same) (all_chosen rest others more))
   all_chosen (FailsToStart loaded b ∷ rest) bs (inl dropped) = inl (refl, refl, all_chosen rest bs dropped)
   all_chosen (FailsToStart loaded b ∷ rest) bs (inr (others, is, more)) =
       inr (
         failed_as true,
-        flat_map (entries_of_attempt me) others,
-        ap (λ l. flat_map (entries_of_attempt me) l) is,
+        flat_map (entries_of_start me) others,
+        ap (λ l. flat_map (entries_of_start me) l) is,
         all_chosen rest others more,
       )
 
@@ -133,14 +133,14 @@ chosen_carried group sent (e ∷ log) kept (inl (none, typed, same)) h =
 chosen_carried group sent (e ∷ log) kept (inr (save, rest, is, same)) h =
     subst (IsCarried group sent) (sym is) (h.0, chosen_carried group (sent ++ e.sent) log rest same h.1)
 
-pub kept_log : (p : Parts) (group : Group) (restarts : ℕ → List Attempt) (log : List Entry)
+pub kept_log : (p : Parts) (group : Group) (restarts : ℕ → List NodeStart) (log : List Entry)
     → ((i : ℕ) → HaveRuns p (record { node = i; group = group }) empty_record (restarts i)) → IsDiskLog p group restarts log
     → HasKeptLog p group restarts log
 kept_log p group restarts log have h =
     let me : ℕ → Me = λ i. record { node = i; group = group } in
-    let runs : ℕ → List Attempt = λ i. (have i).0 in
-    let (kept, same, all) = woven log (λ i. flat_map (entries_of_attempt (me i)) (runs i))
-    (λ i. subst (λ (l : List Entry). IsChosenLog l (flat_map (entries_of_attempt (me i)) (runs i))) (sym (h.entries i))
+    let runs : ℕ → List NodeStart = λ i. (have i).0 in
+    let (kept, same, all) = woven log (λ i. flat_map (entries_of_start (me i)) (runs i))
+    (λ i. subst (λ (l : List Entry). IsChosenLog l (flat_map (entries_of_start (me i)) (runs i))) (sym (h.entries i))
     (all_chosen (me i) (restarts i) (runs i) (have i).2)) in (
       runs,
       kept,

@@ -9,12 +9,12 @@ use Rattle.paxos_msg.specs.Records.{changed}
 use Rattle.paxos_acceptor.specs.declared.me.Me.{Me}
 use Rattle.group_protocol.proofs.Elements.{first_in, in_cases, only_in}
 use Rattle.group_wire.specs.Process.{IsProcess}
-use Rattle.group_process.specs.Runs.{AreRuns, Attempt, FailsToStart, GoesOn, IsLastIfOn, IsOver, NodeRun, Stand, Starts, record_by}
+use Rattle.group_process.specs.Runs.{AreStarts, NodeStart, FailsToStart, GoesOn, IsLastIfOn, IsOver, NodeRun, Stand, Starts, record_by}
 use Rattle.group_disk.specs.Restarts.{AreChosenRuns, AreRestarts, HaveRuns, IsSameStand, found_after}
 
 module _ (p : Parts) (me : Me) where
   -- runs over a store that has one of these records
-  abbrev Over : List Record → List Attempt → Type 0
+  abbrev Over : List Record → List NodeStart → Type 0
   Over found restarts = (kept : Record) × Contains found kept × HaveRuns p me kept restarts
 
   -- which record a failed save has left, by the one that is found
@@ -25,7 +25,7 @@ module _ (p : Parts) (me : Me) where
     | inr later ↦ (true, sym (only_in (record_by run (IsOver true)) kept later))
   ]
 
-  starts_over : (run : NodeRun) (rest : List Attempt) (found : List Record) (stand : Stand) → run.stand ≡ stand
+  starts_over : (run : NodeRun) (rest : List NodeStart) (found : List Record) (stand : Stand) → run.stand ≡ stand
       → Contains found run.process.loaded → IsProcess p me run.process run.last → IsLastIfOn stand rest
       → Over (found_after found (Starts run)) rest → Over found (Starts run ∷ rest)
   starts_over run rest found GoesOn is read h none later =
@@ -40,7 +40,7 @@ module _ (p : Parts) (me : Me) where
             [],
             subst (λ (s : Stand). IsSameStand s GoesOn) (sym is) refl,
             refl,
-            subst (λ (l : List Attempt). AreChosenRuns l [])
+            subst (λ (l : List NodeStart). AreChosenRuns l [])
                 (sym none) refl,
           ),
         ),
@@ -52,12 +52,12 @@ module _ (p : Parts) (me : Me) where
         read,
         (
           Starts over ∷ runs,
-          ((refl, h, tt), subst (λ (r : Record). AreRuns p me r runs) left are),
+          ((refl, h, tt), subst (λ (r : Record). AreStarts p me r runs) left are),
           (IsOver which, runs, subst (λ (s : Stand). IsSameStand s (IsOver which)) (sym is) tt, refl, chosen),
         ),
       )
 
-  pub have_runs : (restarts : List Attempt) (found : List Record) (one : Record) → Contains found one
+  pub have_runs : (restarts : List NodeStart) (found : List Record) (one : Record) → Contains found one
       → AreRestarts p me found restarts → Over found restarts
   have_runs [] found one there h = (one, there, ([], tt, refl))
   have_runs (Starts run ∷ rest) found one there ((read, process, last), others) =
@@ -73,14 +73,14 @@ module _ (p : Parts) (me : Me) where
           read,
           (
             FailsToStart loaded true ∷ runs,
-            ((refl, spare), subst (λ (r : Record). AreRuns p me r runs) (sym e) are),
+            ((refl, spare), subst (λ (r : Record). AreStarts p me r runs) (sym e) are),
             inr (runs, refl, chosen),
           ),
         )
         | inr before ↦ (kept, before, (runs, are, inl chosen))
       ]
 
-  pub runs_over_one : (kept : Record) (restarts : List Attempt) → AreRestarts p me (kept ∷ []) restarts
+  pub runs_over_one : (kept : Record) (restarts : List NodeStart) → AreRestarts p me (kept ∷ []) restarts
       → HaveRuns p me kept restarts
   runs_over_one kept restarts h =
       let (one, there, have) = have_runs restarts (kept ∷ []) kept (first_in kept []) h in

@@ -8,7 +8,7 @@ use Rattle.paxos_acceptor.specs.declared.me.Me.{Me}
 use Rattle.group_protocol.proofs.Elements.{entries_none, first_in, rest_in}
 use Rattle.group_protocol.specs.Known.{front}
 use Rattle.group_wire.specs.Process.{IsProcess, started}
-use Rattle.group_process.specs.Runs.{AreRuns, FailsToStart, IsOver, record_by, record_left}
+use Rattle.group_process.specs.Runs.{AreStarts, FailsToStart, IsOver, record_by, record_left}
 use Rattle.group_disk.specs.Restarts.{AreRestarts}
 use Rattle.group_disk.specs.Wrong.{MayCampaign, campaigns, taken_back}
 
@@ -46,5 +46,5 @@ module _ (p : Parts) (me : Me) (loaded : Record) where
   left_starts true e = absurd (omega (arith, ap (λ (r : Record). r.starts) e))
   left_starts false e = promised (sym (ap (λ (r : Record). r.promised) e))
 
-  pub not_runs : (a b c : Bool) → ¬ AreRuns p me loaded (taken_back p me loaded a b c)
+  pub not_runs : (a b c : Bool) → ¬ AreStarts p me loaded (taken_back p me loaded a b c)
   not_runs a b c (first, (second, (third, rest))) = left_starts b third.0

@@ -24,7 +24,7 @@ use Rattle.group_wire.specs.Arrivals.{Spells}
 use Rattle.group_wire.specs.Process.{IsProcess, started}
 use Rattle.group_world.specs.Group.{messages_in}
 use Rattle.group_world.specs.Processes.{IsCarried, entries_of}
-use Rattle.group_process.specs.Runs.{entries_of_attempt}
+use Rattle.group_process.specs.Runs.{entries_of_start}
 use Rattle.group_disk.specs.Folders.{AreOverDisk, IsFolderLog, starts_of}
 use Rattle.group_disk.specs.TornStarts.{changes_of_one, first_campaign, first_heard, first_of_three, first_prepare, log_of_second, no_files, opening, record_by_changes, second_of_three, second_starts, synced_folder, torn_entries, torn_group, torn_log, torn_starts}
 use Rattle.group_disk.proofs.TornFiles.{start_next, synced_left, uncut_found}
@@ -104,11 +104,11 @@ module _ (new : IsUncut me header empty_record)
       (record { fits = fits; spelled = refl }) (first_in _ [])
 
   entries_are : (i : ℕ) → entries_of i (torn_log p is_shown)
-      ≡ flat_map (entries_of_attempt (record { node = i; group = group })) (starts_of (torn_group p is_shown i))
+      ≡ flat_map (entries_of_start (record { node = i; group = group })) (starts_of (torn_group p is_shown i))
   entries_are i = by is_shown
     where
       by : (b : Bool) → entries_of i (torn_log p b)
-          ≡ flat_map (entries_of_attempt (record { node = i; group = group })) (starts_of (torn_group p b i))
+          ≡ flat_map (entries_of_start (record { node = i; group = group })) (starts_of (torn_group p b i))
       by false = grind (arith, nat_tests)
       by true = grind (arith, nat_tests)
 

@@ -14,16 +14,16 @@ use Rattle.paxos_disk.specs.Disks.{Folder}
 use Rattle.paxos_disk.specs.Found.{LoadsNoMore, LoadsNoMoreBut, LoadsOnly, MayLoad}
 use Rattle.group_wire.specs.Process.{IsProcess}
 use Rattle.group_process.specs.Network.{AreDelivered, GivenEntry, received_by, received_in}
-use Rattle.group_process.specs.Runs.{Attempt, FailsToStart, IsLastIfOn, IsOver, Starts, entries_of_attempt, record_by}
+use Rattle.group_process.specs.Runs.{NodeStart, FailsToStart, IsLastIfOn, IsOver, Starts, entries_of_start, record_by}
 
 -- A start over a folder, and the folder that it leaves.
 pub record DiskStart : Type 0 where
   pub before : Folder
-  pub start : Attempt
+  pub start : NodeStart
   pub after : Folder
 
 -- These three, put together.
-abbrev pub start_over : Folder → Attempt → Folder → DiskStart
+abbrev pub start_over : Folder → NodeStart → Folder → DiskStart
 start_over before start after = record { before = before; start = start; after = after }
 
 -- What a start makes of its folder. It loads a record that a restart may find. A run leaves its
@@ -32,7 +32,7 @@ start_over before start after = record { before = before; start = start; after =
 -- Forbids: A process that loads the record of another folder; one that leaves another record.
 abbrev pub IsOverDisk : Parts → Me → DiskStart → List DiskStart → Type 0
 IsOverDisk p me s rest = by s.start where
-  by : Attempt → Type 0
+  by : NodeStart → Type 0
   by (Starts run) =
       MayLoad s.before run.process.loaded × IsProcess p me run.process run.last
       × IsLastIfOn run.stand (map (λ (d : DiskStart). d.start) rest)
@@ -58,7 +58,7 @@ AreOverDisk p me folder (s ∷ rest) =
     LoadsNoMore folder s.before × IsOverDisk p me s rest × AreOverDisk p me s.after rest
 
 -- The starts alone.
-abbrev pub starts_of : List DiskStart → List Attempt
+abbrev pub starts_of : List DiskStart → List NodeStart
 starts_of starts = map (λ s. s.start) starts
 
 -- A folder without a record.
@@ -73,7 +73,7 @@ pub record IsFolderLog (p : Parts) (group : Group) (folder : ℕ → Folder)
     (starts : ℕ → List DiskStart) (log : List Entry) : Type 0 where
   pub among : AllByRecursion (λ e. IsNode group.size e.node) log
   pub entries : (i : ℕ) → entries_of i log
-      ≡ flat_map (entries_of_attempt (record { node = i; group = group })) (starts_of (starts i))
+      ≡ flat_map (entries_of_start (record { node = i; group = group })) (starts_of (starts i))
   pub begun : (i : ℕ) → IsNew (folder i)
   pub started : (i : ℕ)
       → AreOverDisk p (record { node = i; group = group }) (folder i) (starts i)

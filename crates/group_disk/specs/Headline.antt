@@ -8,31 +8,31 @@ use Rattle.group_rules.specs.Rules.{WorldState}
 use Rattle.group_world.specs.Group.{member_at}
 use Rattle.group_world.specs.Member.{Member}
 use Rattle.group_world.specs.Processes.{Entry}
-use Rattle.group_process.specs.Runs.{AreFirstRuns, Attempt, IsAfterRuns, node_after, state_after}
+use Rattle.group_process.specs.Runs.{AreFirstRuns, NodeStart, IsAfterRuns, node_after, state_after}
 use Rattle.group_disk.specs.Restarts.{IsDiskLog, IsKeptLog}
 
 -- The nodes `now` of a group after a log of its processes over their disks. They are those after
 -- the same runs over stores that keep their records, by a choice of what each disk has.
-pub record IsAfterDisks (p : Parts) (group : Group) (restarts : ℕ → List Attempt)
+pub record IsAfterDisks (p : Parts) (group : Group) (restarts : ℕ → List NodeStart)
     (log : List Entry) (now : List Member) : Type 0 where
-  pub runs : ℕ → List Attempt
+  pub runs : ℕ → List NodeStart
   pub kept : List Entry
   pub chosen : IsKeptLog p group restarts runs log kept
   pub after : IsAfterRuns p group runs kept now
 
 -- The claim that a log over disks leaves such nodes.
-abbrev pub DisksLeaveNodes : Parts → Group → (ℕ → List Attempt) → List Entry → Type 0
+abbrev pub DisksLeaveNodes : Parts → Group → (ℕ → List NodeStart) → List Entry → Type 0
 DisksLeaveNodes p group restarts log =
     (now : List Member) × IsAfterDisks p group restarts log now
 
 -- The claim that this is a log over disks, of starts that are the first of these.
-abbrev pub HasFirstStarts : Parts → Group → (ℕ → List Attempt) → List Entry → Type 0
+abbrev pub HasFirstStarts : Parts → Group → (ℕ → List NodeStart) → List Entry → Type 0
 HasFirstStarts p group restarts log =
-    (cut : ℕ → List Attempt) × IsDiskLog p group cut log
+    (cut : ℕ → List NodeStart) × IsDiskLog p group cut log
     × ((i : ℕ) → AreFirstRuns (cut i) (restarts i))
 
 -- Each node of a group is up, or down, as its last start left it.
-abbrev pub AreUpAsRun : Group → (ℕ → List Attempt) → List Member → Type 0
+abbrev pub AreUpAsRun : Group → (ℕ → List NodeStart) → List Member → Type 0
 AreUpAsRun group restarts now =
     (i : ℕ) → IsNode group.size i
     → (m : Member) × (member_at now i ≡ Some m) × (m.node ≡ node_after None (restarts i))
@@ -47,29 +47,30 @@ AreSeenAlike group now other =
 -- What holds of the nodes of every program and group, whatever their processes do, over disks.
 abbrev pub AlwaysOfDisks : (WorldState → Type 0) → Type 0
 AlwaysOfDisks P =
-    (p : Parts) (group : Group) (restarts : ℕ → List Attempt) (log : List Entry)
+    (p : Parts) (group : Group) (restarts : ℕ → List NodeStart) (log : List Entry)
     (now : List Member) → IsSize group.size → IsGroup group
     → IsAfterDisks p group restarts log now → P (state_after p group log now)
 
 -- The same of what relates the nodes to their starts.
-abbrev pub AlwaysOfDiskNodes : ((ℕ → List Attempt) → List Member → Type 0) → Type 0
+abbrev pub AlwaysOfDiskNodes : ((ℕ → List NodeStart) → List Member → Type 0) → Type 0
 AlwaysOfDiskNodes Q =
-    (p : Parts) (group : Group) (restarts : ℕ → List Attempt) (log : List Entry)
+    (p : Parts) (group : Group) (restarts : ℕ → List NodeStart) (log : List Entry)
     (now : List Member) → IsSize group.size → IsGroup group
     → IsAfterDisks p group restarts log now → Q restarts now
 
 -- Two moments of a log over disks: after `log`, and after all of it. The starts `cut` up to the
 -- first moment are the first of the starts, and the last one of each node may be cut off there.
-pub record AreMomentsOfDisks (p : Parts) (group : Group) (cut restarts : ℕ → List Attempt)
+pub record AreMomentsOfDisks (p : Parts) (group : Group) (cut restarts : ℕ → List NodeStart)
     (log more : List Entry) : Type 0 where
   pub before : IsDiskLog p group cut log
   pub all : IsDiskLog p group restarts (log ++ more)
   pub first : (i : ℕ) → AreFirstRuns (cut i) (restarts i)
 
 -- The claim that a log over disks has such a moment after its front, and nodes at it.
-abbrev pub HaveMomentOfDisks : Parts → Group → (ℕ → List Attempt) → List Entry → List Entry → Type 0
+abbrev pub HaveMomentOfDisks : Parts → Group → (ℕ → List NodeStart) → List Entry → List Entry
+    → Type 0
 HaveMomentOfDisks p group restarts log more =
-    (cut : ℕ → List Attempt) × AreMomentsOfDisks p group cut restarts log more
+    (cut : ℕ → List NodeStart) × AreMomentsOfDisks p group cut restarts log more
     × DisksLeaveNodes p group cut log
 
 -- What holds of every two moments of a log: `mid` are the nodes after its front, and `now` those
@@ -77,7 +78,7 @@ HaveMomentOfDisks p group restarts log more =
 -- Allows: a record that `mid` has of a node that is down, and that no later start finds.
 abbrev pub AlwaysLaterOfDisks : (WorldState → WorldState → Type 0) → Type 0
 AlwaysLaterOfDisks P =
-    (p : Parts) (group : Group) (cut restarts : ℕ → List Attempt) (log more : List Entry)
+    (p : Parts) (group : Group) (cut restarts : ℕ → List NodeStart) (log more : List Entry)
     (mid now : List Member) → IsSize group.size → IsGroup group
     → AreMomentsOfDisks p group cut restarts log more → IsAfterDisks p group cut log mid
     → IsAfterDisks p group restarts (log ++ more) now

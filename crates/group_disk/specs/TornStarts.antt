@@ -22,7 +22,7 @@ use Rattle.group_protocol.specs.ProposerResponses.{next_ballot, on_campaign}
 use Rattle.group_wire.specs.Doings.{Doing}
 use Rattle.group_wire.specs.Process.{started}
 use Rattle.group_world.specs.Processes.{Entry}
-use Rattle.group_process.specs.Runs.{FailsToStart, IsOver, NodeRun, Starts, entries_of_attempt}
+use Rattle.group_process.specs.Runs.{FailsToStart, IsOver, NodeRun, Starts, entries_of_start}
 use Rattle.group_process.specs.Terminals.{TerminalRun}
 use Rattle.group_process.specs.Wrong.{writes_from}
 use Rattle.group_disk.specs.Folders.{DiskStart, start_over, starts_of}
@@ -238,14 +238,14 @@ torn_group p is_shown i =
 -- The entries of the first node.
 abbrev pub torn_entries : Parts → Bool → List Entry
 torn_entries p is_shown =
-    flat_map (entries_of_attempt first_of_three) (starts_of (torn_starts p is_shown))
+    flat_map (entries_of_start first_of_three) (starts_of (torn_starts p is_shown))
 
 -- What they do, in order of time: the second node hears the campaign of the first one before that
 -- is killed.
 abbrev pub torn_log : Parts → Bool → List Entry
 torn_log p is_shown =
     take 2 (torn_entries p is_shown)
-    ++ (flat_map (entries_of_attempt second_of_three) (starts_of (second_starts p))
+    ++ (flat_map (entries_of_start second_of_three) (starts_of (second_starts p))
     ++ drop 2 (torn_entries p is_shown))
 
 -- The runs of the first node at its terminal, if its program writes this letter first. The first

@@ -9,7 +9,7 @@ use Rattle.paxos_acceptor.specs.declared.me.Me.{Me}
 use Rattle.group_node.specs.Deeds.{Campaign}
 use Rattle.group_wire.specs.Doings.{Doing}
 use Rattle.group_wire.specs.Process.{started}
-use Rattle.group_process.specs.Runs.{Attempt, FailsToStart, IsOver, NodeRun, Starts, record_by}
+use Rattle.group_process.specs.Runs.{NodeStart, FailsToStart, IsOver, NodeRun, Starts, record_by}
 
 -- A campaign at which the save fails.
 abbrev pub failed_campaign : Doing
@@ -25,7 +25,7 @@ campaigns p me loaded is_changed = record {
 
 -- After it a start loads the promise, and is cut off as it saves; the next one does not find the
 -- promise any more.
-abbrev pub taken_back : Parts → Me → Record → Bool → Bool → Bool → List Attempt
+abbrev pub taken_back : Parts → Me → Record → Bool → Bool → Bool → List NodeStart
 taken_back p me loaded a b c =
     Starts (campaigns p me loaded a)
     ∷ FailsToStart (record_by (campaigns p me loaded a) (IsOver true)) b

@@ -23,7 +23,7 @@ ghost use Rattle.group_world.specs.Processes.{Entry};
 ghost use Rattle.group_disk.specs.Wrong.{MayCampaign, taken_back};
 ghost use Rattle.paxos_msg.specs.Records.{empty_record};
 ghost use Rattle.group_process.specs.Network.{GivenEntry, entries_alone};
-ghost use Rattle.group_process.specs.Runs.{AreRuns, Attempt, ConsolesAreReleased, ConsolesShowRuns, IsOver, NodeRun, Starts};
+ghost use Rattle.group_process.specs.Runs.{AreStarts, NodeStart, ConsolesAreReleased, ConsolesShowRuns, IsOver, NodeRun, Starts};
 ghost use Rattle.group_disk.specs.DiskCalls.{AreCallsAt, AreDiskCalls, DiskCall, FindsItsRecord, HandFolderOn, HaveStarts, WriteAt, runs_of};
 ghost use Rattle.group_disk.specs.Folders.{AreOverDisk, DiskStart, IsFolderLog, IsNetworkFolderLog, IsNew, IsOverDisk, LeavesNoMoreThan, start_over, starts_of};
 ghost use Rattle.group_disk.specs.Headline.{AlwaysLaterOfDisks, AlwaysOfDiskNodes, AlwaysOfDisks, AreSeenAlike, AreUpAsRun, DisksLeaveNodes, HasFirstStarts, HaveMomentOfDisks, IsAfterDisks};
@@ -45,14 +45,14 @@ use pcode_machine::laws::{output_only_grows, prefixes_are_ordered};
 
 /// Starts over a disk are runs over a store that keeps its record, with the same deeds.
 pub fn restarts_are_runs()
-    ensures { (p : Parts) (me : Me) (kept : Record) (restarts : List Attempt)
+    ensures { (p : Parts) (me : Me) (kept : Record) (restarts : List NodeStart)
         → AreRestarts p me (kept ∷ []) restarts → HaveRuns p me kept restarts }
 {}
 
 /// Of the runs that are chosen all that is seen is the same.
 pub fn chosen_runs_are_seen_same()
-    ensures { (me : Me) (restarts runs : List Attempt) → AreChosenRuns restarts runs
-        → AreSeenSame me restarts runs }
+    ensures { (me : Me) (restarts starts : List NodeStart) → AreChosenRuns restarts starts
+        → AreSeenSame me restarts starts }
 {}
 
 /// Starts over the folder of a disk from which a restart may load these records are such starts.
@@ -64,7 +64,7 @@ pub fn folders_restart()
 
 /// A log over disks is one over stores that keep their records.
 pub fn disk_logs_are_kept()
-    ensures { (p : Parts) (group : Group) (restarts : ℕ → List Attempt) (log : List Entry)
+    ensures { (p : Parts) (group : Group) (restarts : ℕ → List NodeStart) (log : List Entry)
         → IsDiskLog p group restarts log → HasKeptLog p group restarts log }
 {
     restarts_are_runs();
@@ -92,24 +92,24 @@ pub fn networks_carry_over_disks()
 
 /// Each front of a log over disks is one too.
 pub fn fronts_of_disks()
-    ensures { (p : Parts) (group : Group) (restarts : ℕ → List Attempt) (log more : List Entry)
+    ensures { (p : Parts) (group : Group) (restarts : ℕ → List NodeStart) (log more : List Entry)
         → IsDiskLog p group restarts (log ++ more) → HasFirstStarts p group restarts log }
 {}
 
 /// The main theorem for processes over disks.
 pub fn disks_headline()
-    ensures nodes { (p : Parts) (group : Group) (restarts : ℕ → List Attempt) (log : List Entry)
+    ensures nodes { (p : Parts) (group : Group) (restarts : ℕ → List NodeStart) (log : List Entry)
         → IsDiskLog p group restarts log → DisksLeaveNodes p group restarts log }
-    ensures fronts { (p : Parts) (group : Group) (restarts : ℕ → List Attempt)
+    ensures fronts { (p : Parts) (group : Group) (restarts : ℕ → List NodeStart)
         (log more : List Entry) → IsDiskLog p group restarts (log ++ more)
         → HasFirstStarts p group restarts log }
-    ensures moments { (p : Parts) (group : Group) (restarts : ℕ → List Attempt)
+    ensures moments { (p : Parts) (group : Group) (restarts : ℕ → List NodeStart)
         (log more : List Entry) → IsDiskLog p group restarts (log ++ more)
         → HaveMomentOfDisks p group restarts log more }
-    ensures as_run { (p : Parts) (group : Group) (restarts : ℕ → List Attempt) (log : List Entry)
+    ensures as_run { (p : Parts) (group : Group) (restarts : ℕ → List NodeStart) (log : List Entry)
         (now : List Member) → IsDiskLog p group restarts log
         → IsAfterDisks p group restarts log now → AreUpAsRun group restarts now }
-    ensures alike { (p : Parts) (group : Group) (restarts : ℕ → List Attempt) (log : List Entry)
+    ensures alike { (p : Parts) (group : Group) (restarts : ℕ → List NodeStart) (log : List Entry)
         (now other : List Member) → IsSize group.size → IsGroup group
         → IsDiskLog p group restarts log → IsAfterDisks p group restarts log now
         → IsAfterDisks p group restarts log other → AreSeenAlike group now other }
@@ -143,7 +143,7 @@ pub fn a_promise_is_taken_back()
         → MayCampaign p me loaded
         → AreRestarts p me (loaded ∷ []) (taken_back p me loaded a b c) }
     ensures not { (p : Parts) (me : Me) (loaded : Record) (a b c : Bool)
-        → ¬ AreRuns p me loaded (taken_back p me loaded a b c) }
+        → ¬ AreStarts p me loaded (taken_back p me loaded a b c) }
     ensures some { (p : Parts) (me : Me) → MayCampaign p me empty_record }
 {}
 

@@ -13,7 +13,7 @@ use Rattle.paxos_acceptor.specs.declared.me.Me.{Me}
 use Rattle.group_world.specs.Group.{member_at, new_world}
 use Rattle.group_world.specs.Member.{Member}
 use Rattle.group_world.specs.Processes.{Entry, IsLog}
-use Rattle.group_process.specs.Runs.{AreHistory, AreRuns, Attempt, IsGroupLog, LeaveNodes}
+use Rattle.group_process.specs.Runs.{AreHistory, AreStarts, NodeStart, IsGroupLog, LeaveNodes}
 
 -- the node before all runs
 abbrev pub first : Member
@@ -41,9 +41,9 @@ at_node size state (suc k) m e =
 
 -- each history of runs
 abbrev Law : Type 0
-Law = (p : Parts) (me : Me) (m : Member) (runs : List Attempt) → m.node ≡ None → AreRuns p me m.kept runs → AreHistory p me m runs
+Law = (p : Parts) (me : Me) (m : Member) (runs : List NodeStart) → m.node ≡ None → AreStarts p me m.kept runs → AreHistory p me m runs
 
-pub group_log : Law → (p : Parts) (group : Group) (runs : ℕ → List Attempt) (log : List Entry) → IsGroupLog p group runs log
+pub group_log : Law → (p : Parts) (group : Group) (runs : ℕ → List NodeStart) (log : List Entry) → IsGroupLog p group runs log
     → LeaveNodes p group runs log
 group_log law p group runs log h =
     let me : ℕ → Me = λ i. record { node = i; group = group } in

@@ -20,7 +20,7 @@ use Rattle.group_world.specs.Processes.{Entry, IsCarried, entries_of}
 use Rattle.group_world.specs.Event.{HearsOf}
 use Rattle.group_wire.specs.Process.{IsProcess}
 use Rattle.group_process.specs.Network.{AreDelivered, AreEntriesOf, AreLetters, AreProcesses, IsDeliveredLog, IsNetworkLog, GivenEntry, entries_alone, given_for, received_at, received_by, received_in, with_given}
-use Rattle.group_process.specs.Runs.{AreRuns, Attempt, FailsToStart, IsGroupLog, NodeRun, Starts, ends_by, entries_of_attempt}
+use Rattle.group_process.specs.Runs.{AreStarts, NodeStart, FailsToStart, IsGroupLog, NodeRun, Starts, ends_by, entries_of_start}
 use Rattle.group_process.proofs.GivenWasSent.{ReadLaw, letter_sent, message_sent}
 use Rattle.group_protocol.proofs.Elements.{first_in}
 
@@ -52,13 +52,13 @@ abbrev entry_in : GivenEntry → Entry
 entry_in e = e.entry
 
 -- the entries of a start, and of several, without what was given
-attempt_without : (me : Me) (a : Attempt) → map entry_in (received_in me a) ≡ entries_of_attempt me a
-attempt_without me (Starts run) = simp (map-append, map-map, map-id)
-attempt_without me (FailsToStart loaded is_changed) = refl
+start_without : (me : Me) (a : NodeStart) → map entry_in (received_in me a) ≡ entries_of_start me a
+start_without me (Starts run) = simp (map-append, map-map, map-id)
+start_without me (FailsToStart loaded is_changed) = refl
 
-runs_without : (me : Me) (runs : List Attempt) → map entry_in (flat_map (received_in me) runs) ≡ flat_map (entries_of_attempt me) runs
+runs_without : (me : Me) (runs : List NodeStart) → map entry_in (flat_map (received_in me) runs) ≡ flat_map (entries_of_start me) runs
 runs_without me [] = refl
-runs_without me (a ∷ runs) = rw (map-append, attempt_without me a, runs_without me runs) refl
+runs_without me (a ∷ runs) = rw (map-append, start_without me a, runs_without me runs) refl
 
 -- a deed that hears, if it hears a message, one that a receive gave
 abbrev HearsGiven : Group → List (Option (List ℕ)) → Deed → Type 0
@@ -93,7 +93,7 @@ module _ (p : Parts) (me : Me) where
   run_given : (run : NodeRun) → IsProcess p me run.process run.last → AllByRecursion (IsGiven me.group) (received_in me (Starts run))
   run_given run h = grind (arith, all_append, all_given, ends_given)
 
-  starts_given : (starts : List Attempt) → AreProcesses p me starts
+  starts_given : (starts : List NodeStart) → AreProcesses p me starts
       → AllByRecursion (IsGiven me.group) (flat_map (received_in me) starts)
   starts_given [] h = tt
   starts_given (Starts run ∷ starts) (first, others) =
@@ -102,7 +102,7 @@ module _ (p : Parts) (me : Me) where
   starts_given (FailsToStart loaded is_changed ∷ starts) h = (tt, starts_given starts h)
 
   -- runs over a store are processes
-  are_processes : (runs : List Attempt) (kept : Record) → AreRuns p me kept runs → AreProcesses p me runs
+  are_processes : (runs : List NodeStart) (kept : Record) → AreStarts p me kept runs → AreProcesses p me runs
   are_processes [] kept h = tt
   are_processes (Starts run ∷ runs) kept (first, others) = (first.1, are_processes runs _ others)
   are_processes (FailsToStart loaded is_changed ∷ runs) kept (first, others) = are_processes runs _ others
@@ -129,7 +129,7 @@ module _ (read : ReadLaw) (group : Group) (session : IsGroup group) where
   all_among [] h = tt
   all_among (e ∷ log) h = (h.0, all_among log h.1)
 
-  pub delivered_log : (p : Parts) (starts : ℕ → List Attempt) (log : List GivenEntry) → IsDeliveredLog p group starts log
+  pub delivered_log : (p : Parts) (starts : ℕ → List NodeStart) (log : List GivenEntry) → IsDeliveredLog p group starts log
       → AreEntriesOf group starts (entries_alone log)
   delivered_log p starts log h =
       let me : ℕ → Me = λ i. record { node = i; group = group } in
@@ -141,7 +141,7 @@ module _ (read : ReadLaw) (group : Group) (session : IsGroup group) where
         carried = all_carried [] log h.delivered (all_by_node (IsGiven group) log given);
       }
 
-  pub network_log : (p : Parts) (runs : ℕ → List Attempt) (log : List GivenEntry) → IsNetworkLog p group runs log
+  pub network_log : (p : Parts) (runs : ℕ → List NodeStart) (log : List GivenEntry) → IsNetworkLog p group runs log
       → IsGroupLog p group runs (entries_alone log)
   network_log p runs log h =
       let is = delivered_log p runs log (record {

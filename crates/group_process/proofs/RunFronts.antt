@@ -16,7 +16,7 @@ use Rattle.group_wire.specs.Doings.{DoesAll, Doing}
 use Rattle.group_wire.specs.Process.{IsProcess, Process, started}
 use Rattle.group_world.specs.declared.event.Outcome.TheVariants.{Kept}
 use Rattle.group_world.specs.Processes.{Entry, IsCarried, entries_of, quiet_entry}
-use Rattle.group_process.specs.Runs.{AreFirstRuns, AreInTurn, Attempt, FailsToStart, GoesOn, HasRuns, IsAttempt, IsGroupLog, NodeRun, Starts, ends_by, entries_of_attempt, entry_by, record_left}
+use Rattle.group_process.specs.Runs.{AreFirstRuns, AreInTurn, NodeStart, FailsToStart, GoesOn, HasRuns, IsStartOver, IsGroupLog, NodeRun, Starts, ends_by, entries_of_start, entry_by, record_left}
 
 -- ---- lists
 
@@ -52,12 +52,12 @@ carried_front group sent (e ∷ log) more h = (h.0, carried_front group (sent ++
 
 -- Starts over what is known of a store: they are runs, which may be cut off at a deed, and a run that goes on
 -- stays the last one.
-pub record MayBeCut (p : Parts) (me : Me) {K : Type 0} (so : K → Attempt → List Attempt → Type 0) : Type 0 where
-  pub runs : (known : K) (run : NodeRun) (rest : List Attempt) → so known (Starts run) rest → IsProcess p me run.process run.last
-  pub cut : (known : K) (run : NodeRun) (rest : List Attempt) (process : Process) (mid : Running) → so known (Starts run) rest
+pub record MayBeCut (p : Parts) (me : Me) {K : Type 0} (so : K → NodeStart → List NodeStart → Type 0) : Type 0 where
+  pub runs : (known : K) (run : NodeRun) (rest : List NodeStart) → so known (Starts run) rest → IsProcess p me run.process run.last
+  pub cut : (known : K) (run : NodeRun) (rest : List NodeStart) (process : Process) (mid : Running) → so known (Starts run) rest
       → process.loaded ≡ run.process.loaded → IsProcess p me process mid
       → so known (Starts (record { process = process; last = mid; stand = GoesOn })) []
-  pub still : (known : K) (a : Attempt) (rest cut : List Attempt) → so known a rest → AreFirstRuns cut rest → so known a cut
+  pub still : (known : K) (a : NodeStart) (rest cut : List NodeStart) → so known a rest → AreFirstRuns cut rest → so known a cut
 
 module _ (p : Parts) (me : Me) where
   -- the deeds of a front
@@ -84,17 +84,17 @@ module _ (p : Parts) (me : Me) where
         | inr (z, rest, whole) ↦ front_of_images (entry_by me.node Kept) run.process.doings es (z ∷ rest) whole
       ]
 
-  module _ {K : Type 0} (so : K → Attempt → List Attempt → Type 0) (next : K → Attempt → K) (may : MayBeCut p me so) where
+  module _ {K : Type 0} (so : K → NodeStart → List NodeStart → Type 0) (next : K → NodeStart → K) (may : MayBeCut p me so) where
     -- starts with these entries, which are the first of others
-    abbrev pub FrontOf : List Attempt → K → List Entry → Type 0
+    abbrev pub FrontOf : List NodeStart → K → List Entry → Type 0
     FrontOf runs known es =
-        (cut : List Attempt) × AreInTurn so next known cut × (es ≡ flat_map (entries_of_attempt me) cut) × AreFirstRuns cut runs
+        (cut : List NodeStart) × AreInTurn so next known cut × (es ≡ flat_map (entries_of_start me) cut) × AreFirstRuns cut runs
 
     -- a front of the entries of a start that ends in it
-    cut_attempt : (known : K) (a : Attempt) (rest : List Attempt) (es : List Entry) (y : Entry) (fs : List Entry)
-        → so known a rest → entries_of_attempt me a ≡ es ++ y ∷ fs → FrontOf (a ∷ rest) known es
-    cut_attempt known (Starts run) others [] y fs any e = ([], tt, refl, tt)
-    cut_attempt known (Starts run) others (x ∷ es) y fs any e =
+    cut_start_over : (known : K) (a : NodeStart) (rest : List NodeStart) (es : List Entry) (y : Entry) (fs : List Entry)
+        → so known a rest → entries_of_start me a ≡ es ++ y ∷ fs → FrontOf (a ∷ rest) known es
+    cut_start_over known (Starts run) others [] y fs any e = ([], tt, refl, tt)
+    cut_start_over known (Starts run) others (x ∷ es) y fs any e =
         let h = may.runs known run others any in
         let start = quiet_entry me.node (Start run.process.loaded) in
         let head : x ≡ start = cc in
@@ -107,48 +107,48 @@ module _ (p : Parts) (me : Me) where
           rw (append-nil, append-nil) (ap (λ z. z ∷ es) head ∙ ap (λ l. start ∷ l) (sym entries)),
           inr (refl, record { loaded = refl; rest = rest; doings = whole; failed = refl; goes_on = refl }),
         )
-    cut_attempt known (FailsToStart loaded is_changed) rest es y fs any e =
+    cut_start_over known (FailsToStart loaded is_changed) rest es y fs any e =
         ([], tt, nil_from_length es (omega (arith, ap length e, length-append es (y ∷ fs))), tt)
 
     -- a front of the entries of starts
-    pub cut_starts : (runs : List Attempt) (known : K) (es fs : List Entry) → AreInTurn so next known runs
-        → es ++ fs ≡ flat_map (entries_of_attempt me) runs → FrontOf runs known es
+    pub cut_starts : (runs : List NodeStart) (known : K) (es fs : List Entry) → AreInTurn so next known runs
+        → es ++ fs ≡ flat_map (entries_of_start me) runs → FrontOf runs known es
     cut_starts [] known [] fs h e = ([], tt, refl, tt)
     cut_starts [] known (x ∷ es) fs h e = absurd cc
     cut_starts (a ∷ runs) known es fs (first, others) e =
-        elim (front_of_two (entries_of_attempt me a) (flat_map (entries_of_attempt me) runs) es fs e) [
+        elim (front_of_two (entries_of_start me a) (flat_map (entries_of_start me) runs) es fs e) [
           | inl (rest, whole, more) ↦
               let (cut, are, entries, some) = cut_starts runs (next known a) rest fs others more in (
                 a ∷ cut,
                 (may.still known a runs cut first some, are),
-                whole ∙ ap (λ l. entries_of_attempt me a ++ l) entries,
+                whole ∙ ap (λ l. entries_of_start me a ++ l) entries,
                 inl (refl, some),
               )
-          | inr (y, rest, whole) ↦ cut_attempt known a runs es y rest first whole
+          | inr (y, rest, whole) ↦ cut_start_over known a runs es y rest first whole
         ]
 
   -- a run that goes on stays the last one
-  pub still_attempt : (kept : Record) (a : Attempt) (rest cut : List Attempt) → IsAttempt p me kept a rest → AreFirstRuns cut rest
-      → IsAttempt p me kept a cut
-  still_attempt kept a rest [] attempt some = grind arith
-  still_attempt kept a rest (b ∷ cut) attempt some = grind arith
+  pub still_start : (kept : Record) (a : NodeStart) (rest cut : List NodeStart) → IsStartOver p me kept a rest → AreFirstRuns cut rest
+      → IsStartOver p me kept a cut
+  still_start kept a rest [] start some = grind arith
+  still_start kept a rest (b ∷ cut) start some = grind arith
 
   -- so it is of runs over a store that keeps its record
-  runs_may_be_cut : MayBeCut p me (IsAttempt p me)
+  runs_may_be_cut : MayBeCut p me (IsStartOver p me)
   runs_may_be_cut = record {
     runs = λ kept run rest h. h.1;
     cut = λ kept run rest process mid h loaded runs. (loaded ∙ h.0, runs, refl);
-    still = still_attempt;
+    still = still_start;
   }
 
 -- ---- a log
 
-pub log_front : (p : Parts) (group : Group) (runs : ℕ → List Attempt) (log more : List Entry) → IsGroupLog p group runs (log ++ more)
+pub log_front : (p : Parts) (group : Group) (runs : ℕ → List NodeStart) (log more : List Entry) → IsGroupLog p group runs (log ++ more)
     → HasRuns p group runs log
 log_front p group runs log more h =
     let me : ℕ → Me = λ i. record { node = i; group = group } in
-    let one : (i : ℕ) → FrontOf p (me i) (IsAttempt p (me i)) (λ _ a. record_left a) (runs_may_be_cut p (me i)) (runs i) empty_record
-    (entries_of i log) = λ i. cut_starts p (me i) (IsAttempt p (me i)) (λ _ a. record_left a) (runs_may_be_cut p (me i))
+    let one : (i : ℕ) → FrontOf p (me i) (IsStartOver p (me i)) (λ _ a. record_left a) (runs_may_be_cut p (me i)) (runs i) empty_record
+    (entries_of i log) = λ i. cut_starts p (me i) (IsStartOver p (me i)) (λ _ a. record_left a) (runs_may_be_cut p (me i))
     (runs i) empty_record
     _ (entries_of i more) (h.started i) (sym (filter-append (λ (e : Entry). e.node == i) log more) ∙ h.entries i) in (
       λ i. (one i).0,

@@ -24,7 +24,7 @@ use Rattle.group_node.specs.Deeds.{Campaign, Crash, Deed, Hear, Idle, Press, Rel
 use Rattle.group_world.specs.declared.event.Done.TheVariants.{Applied, Fell}
 use Rattle.group_world.specs.Deeds.{DoesDeed, EndsCall, Left}
 use Rattle.group_world.specs.Processes.{Entry, IsHistory, left_by, quiet_entry}
-use Rattle.group_process.specs.Runs.{AreRuns, Attempt, FailsToStart, GoesOn, IsAttempt, IsOver, NodeRun, Stand, StandsWith, Starts, run_end, ends_by, entries_of_attempt, entry_by, failed_as, kept_after, node_after, node_by, node_left, record_by, record_left}
+use Rattle.group_process.specs.Runs.{AreStarts, NodeStart, FailsToStart, GoesOn, IsStartOver, IsOver, NodeRun, Stand, StandsWith, Starts, run_end, ends_by, entries_of_start, entry_by, failed_as, kept_after, node_after, node_by, node_left, record_by, record_left}
 use Rattle.group_wire.specs.Process.{record_of, started}
 
 -- the node is up, with the record that it knows; its console was so before its run, or is no longer
@@ -161,15 +161,15 @@ module _ (p : Parts) (me : Me) where
 
   -- these entries leave a node with this record, up or down so, whose console was so before these
   -- runs, or is no longer than what one of them has released
-  abbrev Shown : Member → List Attempt → List Entry → Record → Option Running → Type 0
+  abbrev Shown : Member → List NodeStart → List Entry → Record → Option Running → Type 0
   Shown m runs es kept up = (after : Member) × IsHistory p me m es after × StandsWith after kept up
       × ((after.console ≡ m.console)
       ⊎ ((run : NodeRun) × Contains runs (Starts run) × (length after.console ≤ run.last.progress.released)))
 
   -- a run, or a start whose save fails
-  attempt_is_history : (m : Member) (a : Attempt) (rest : List Attempt) → m.node ≡ None → IsAttempt p me m.kept a rest
-      → Shown m (a ∷ rest) (entries_of_attempt me a) (record_left a) (node_left a)
-  attempt_is_history m (Starts run) rest down (read, h, last) =
+  start_is_history : (m : Member) (a : NodeStart) (rest : List NodeStart) → m.node ≡ None → IsStartOver p me m.kept a rest
+      → Shown m (a ∷ rest) (entries_of_start me a) (record_left a) (node_left a)
+  start_is_history m (Starts run) rest down (read, h, last) =
       let (new, starts, at) = start_is_entry m run.process.loaded h.spare down read in
       let (mid, does, still) = doings_are_entries (started p me run.process.loaded) run.last new run.process.doings at h.does in
       let (after, ends, stands, same) = stand_is_entry run mid run.stand still h.fails in (
@@ -178,7 +178,7 @@ module _ (p : Parts) (me : Me) where
         stands,
         elim still.shows [ inl so ↦ inl (same ∙ so) | inr few ↦ inr (run, first_in (Starts run) rest, rw same few) ],
       )
-  attempt_is_history m (FailsToStart loaded is_changed) rest down (read, spare) =
+  start_is_history m (FailsToStart loaded is_changed) rest down (read, spare) =
       let e : Entry = record { node = me.node; deed = Start loaded; save = failed_as is_changed; sent = []; typed = [] } in
       let makes = start_makes me loaded spare in
       let ends = call_falls me m (no_progress p) _ (on_start me loaded) is_changed e loaded (sym read) makes (λ none. absurd cc)
@@ -187,19 +187,19 @@ module _ (p : Parts) (me : Me) where
       (fallen, (fallen, (Fell, (down, read, ends)), refl), record { record_is = refl; node_is = refl }, inl refl)
 
   -- a run that goes on is the last, so the node is down before each other one
-  down_before : (kept : Record) (a b : Attempt) (runs : List Attempt) → IsAttempt p me kept a (b ∷ runs) → node_left a ≡ None
-  down_before kept a b runs attempt = grind arith
+  down_before : (kept : Record) (a b : NodeStart) (runs : List NodeStart) → IsStartOver p me kept a (b ∷ runs) → node_left a ≡ None
+  down_before kept a b runs start = grind arith
 
-  pub runs_history : (runs : List Attempt) (m : Member) → m.node ≡ None → AreRuns p me m.kept runs
-      → Shown m runs (flat_map (entries_of_attempt me) runs) (kept_after m.kept runs) (node_after None runs)
+  pub runs_history : (runs : List NodeStart) (m : Member) → m.node ≡ None → AreStarts p me m.kept runs
+      → Shown m runs (flat_map (entries_of_start me) runs) (kept_after m.kept runs) (node_after None runs)
   runs_history [] m down h = (m, refl, record { record_is = refl; node_is = down }, inl refl)
-  runs_history (a ∷ []) m down (attempt, others) = rw append-nil (attempt_is_history m a [] down attempt)
-  runs_history (a ∷ b ∷ runs) m down (attempt, others) =
-      let (after, history, stands, shows) = attempt_is_history m a (b ∷ runs) down attempt in
-      let none = stands.node_is ∙ down_before m.kept a b runs attempt in
+  runs_history (a ∷ []) m down (start, others) = rw append-nil (start_is_history m a [] down start)
+  runs_history (a ∷ b ∷ runs) m down (start, others) =
+      let (after, history, stands, shows) = start_is_history m a (b ∷ runs) down start in
+      let none = stands.node_is ∙ down_before m.kept a b runs start in
       let (last, later, ends, all) = runs_history (b ∷ runs) after none (rw (← stands.record_is) at others) in (
         last,
-        history_then m (entries_of_attempt me a) (flat_map (entries_of_attempt me) (b ∷ runs)) after last history later,
+        history_then m (entries_of_start me a) (flat_map (entries_of_start me) (b ∷ runs)) after last history later,
         ends,
         elim all [
           | inl same ↦ rw same shows

@@ -28,7 +28,7 @@ use Rattle.group_wire.specs.Process.{IsProcess, Process, started}
 use Rattle.group_wire.specs.Traffic.{Letter, letters_of, letters_to}
 use Rattle.group_world.specs.declared.event.Outcome.TheVariants.{Kept}
 use Rattle.group_process.specs.Network.{AreDelivered, AreLetters, IsNetworkLog, MayHear, GivenEntry, entries_alone, received_by, received_in, received_in_run}
-use Rattle.group_process.specs.Runs.{AreRuns, Attempt, GoesOn, IsGroupLog, NodeRun, Starts, entry_by}
+use Rattle.group_process.specs.Runs.{AreStarts, NodeStart, GoesOn, IsGroupLog, NodeRun, Starts, entry_by}
 use Rattle.group_protocol.proofs.Elements.{entries_none, none_in, only_in}
 
 module _ (p : Parts) (group : Group) where
@@ -65,7 +65,7 @@ module _ (p : Parts) (group : Group) where
   abbrev run : NodeRun
   run = record { process = process; last = last; stand = GoesOn }
 
-  abbrev runs : ℕ → List Attempt
+  abbrev runs : ℕ → List NodeStart
   runs i = if 1 == i then Starts run ∷ [] else []
 
   abbrev log : List GivenEntry
@@ -91,7 +91,7 @@ module _ (p : Parts) (group : Group) where
     is_process : IsProcess p me process last
     is_process = record { spare = λ e. absurd (omega (arith, e)); does = does; fails = tt }
 
-    are_runs : (i : ℕ) → AreRuns p (record { node = i; group = group }) empty_record (runs i)
+    are_runs : (i : ℕ) → AreStarts p (record { node = i; group = group }) empty_record (runs i)
     are_runs i = elim (cases_eq 1 i) [
       | inl same ↦ rw (sym same) ((refl, is_process, refl), tt)
       | inr ne ↦ rw (ne_eqb 1 i ne) tt
@@ -122,7 +122,7 @@ module _ (p : Parts) (group : Group) where
 
   -- the laws of networks and of lengths
   abbrev CarryLaw : Type 0
-  CarryLaw = (p : Parts) (group : Group) (runs : ℕ → List Attempt) (log : List GivenEntry) → IsGroup group → IsNetworkLog p group runs log
+  CarryLaw = (p : Parts) (group : Group) (runs : ℕ → List NodeStart) (log : List GivenEntry) → IsGroup group → IsNetworkLog p group runs log
       → IsGroupLog p group runs (entries_alone log)
 
   abbrev ShortLaw : Type 0

@@ -18,36 +18,36 @@ use Rattle.group_node.specs.NodeCalls.{Running}
 use Rattle.group_world.specs.Member.{Member}
 use Rattle.group_rules.specs.Claims.{ConsolesShowReleased}
 use Rattle.group_world.specs.Processes.{AlwaysLaterOfProcesses, AlwaysOfProcesses, Entry, HasMoment, IsHistory, IsLog, entries_of}
-use Rattle.group_process.specs.Runs.{AreFirstRuns, AreRuns, Attempt, ConsolesAreReleased, ConsolesShowRuns, GoesOn, IsAfterRuns, NodeRun, Starts, ends_by, entries_of_attempt, node_after, node_left, record_left, run_output}
+use Rattle.group_process.specs.Runs.{AreFirstRuns, AreStarts, NodeStart, ConsolesAreReleased, ConsolesShowRuns, GoesOn, IsAfterRuns, NodeRun, Starts, ends_by, entries_of_start, node_after, node_left, record_left, run_output}
 use Rattle.group_process.proofs.GroupLogs.{first, first_at}
-use Rattle.group_process.proofs.RunFronts.{still_attempt}
+use Rattle.group_process.proofs.RunFronts.{still_start}
 use Rattle.group_process.proofs.RunHistories.{runs_history}
 use Rattle.group_protocol.proofs.Elements.{in_cases, none_in}
 
 -- ---- the node of a run
 
 -- the first of some runs, the last of which is this one, cut off after its deeds
-record Reaches (p : Parts) (me : Me) (kept : Record) (runs : List Attempt) (run : NodeRun) : Type 0 where
-  cut : List Attempt
-  are : AreRuns p me kept cut
+record Reaches (p : Parts) (me : Me) (kept : Record) (runs : List NodeStart) (run : NodeRun) : Type 0 where
+  cut : List NodeStart
+  are : AreStarts p me kept cut
   some : AreFirstRuns cut runs
   rest : List Entry
-  whole : flat_map (entries_of_attempt me) cut ++ rest ≡ flat_map (entries_of_attempt me) runs
+  whole : flat_map (entries_of_start me) cut ++ rest ≡ flat_map (entries_of_start me) runs
   up : (before : Option Running) → node_after before cut ≡ Some (run.last)
 
-reaches : (p : Parts) (me : Me) (runs : List Attempt) (kept : Record) (run : NodeRun) → AreRuns p me kept runs → Contains runs (Starts run)
-    → Reaches p me kept runs run
+reaches : (p : Parts) (me : Me) (runs : List NodeStart) (kept : Record) (run : NodeRun) → AreStarts p me kept runs
+    → Contains runs (Starts run) → Reaches p me kept runs run
 reaches p me [] kept run h there = absurd (none_in (Starts run) there)
-reaches p me (a ∷ runs) kept run (attempt, others) there = elim (in_cases a runs (Starts run) there) [
+reaches p me (a ∷ runs) kept run (start, others) there = elim (in_cases a runs (Starts run) there) [
   | inl e ↦
-      let (read, h, last) = rw e at attempt in
+      let (read, h, last) = rw e at start in
       let cut : NodeRun = record { process = record run.process { failed = None }; last = run.last; stand = GoesOn } in
       record {
         cut = Starts cut ∷ [];
         are = ((read, record { spare = h.spare; does = h.does; fails = tt }, refl), tt);
         some = rw e
             (inr (refl, record { loaded = refl; rest = []; doings = sym (append-nil run.process.doings); failed = refl; goes_on = refl }));
-        rest = ends_by me run run.stand ++ flat_map (entries_of_attempt me) runs;
+        rest = ends_by me run run.stand ++ flat_map (entries_of_start me) runs;
         whole = rw e (grind (arith, append-nil, append_assoc));
         up = λ before. refl;
       }
@@ -55,7 +55,7 @@ reaches p me (a ∷ runs) kept run (attempt, others) there = elim (in_cases a ru
       let r = reaches p me runs (record_left a) run others later in
       record {
         cut = a ∷ r.cut;
-        are = (still_attempt p me kept a runs r.cut attempt r.some, r.are);
+        are = (still_start p me kept a runs r.cut start r.some, r.are);
         some = inl (refl, r.some);
         rest = r.rest;
         whole = grind (arith, append_assoc, r.whole);
@@ -110,7 +110,7 @@ pub record LogLaws : Type 0 where
   pub grow : AlwaysLaterOfProcesses ConsolesGrow
   pub through : (a b c : List ℕ) → IsPrefix a b → IsPrefix b c → IsPrefix a c
 
-module _ (laws : LogLaws) (p : Parts) (group : Group) (runs : ℕ → List Attempt) (log : List Entry) (now : List Member)
+module _ (laws : LogLaws) (p : Parts) (group : Group) (runs : ℕ → List NodeStart) (log : List Entry) (now : List Member)
     (size : IsSize group.size) (session : IsGroup group) (h : IsAfterRuns p group runs log now) where
   -- a console has all that a run has released
   run_shows : (i : ℕ) (m : Member) (run : NodeRun) → member_at now i ≡ Some m → Contains (runs i) (Starts run)

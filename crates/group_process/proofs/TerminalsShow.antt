@@ -9,7 +9,7 @@ use Rattle.paxos_msg.specs.Batches.{Record}
 use Rattle.group_protocol.proofs.Elements.{first_in, in_cases, none_in, rest_in}
 use Rattle.group_world.specs.Group.{member_at}
 use Rattle.group_world.specs.Member.{Member}
-use Rattle.group_process.specs.Runs.{Attempt, ConsolesAreReleased, ConsolesShowRuns, FailsToStart, NodeRun, Starts, run_output, runs_in}
+use Rattle.group_process.specs.Runs.{NodeStart, ConsolesAreReleased, ConsolesShowRuns, FailsToStart, NodeRun, Starts, run_output, runs_in}
 use Rattle.group_process.specs.Terminals.{AreAtTerminal, LoseNothing, TerminalRun, TerminalsAreConsoles, TerminalsShowConsoles, TerminalsShowLastRuns, WritesAt, WritesWhole, WriteInTurn, shown_after, shown_before, terminal_after}
 use Rattle.group_process.proofs.RunsShow.{no_more}
 
@@ -114,7 +114,7 @@ long_enough shown (run ∷ runs) (first, h) (kept, all, others) =
 -- ---- the runs of a node
 
 -- what each run has released, by the starts that they are of
-each_released : (console : List ℕ) (starts : List Attempt)
+each_released : (console : List ℕ) (starts : List NodeStart)
     → ((run : NodeRun) → Contains starts (Starts run) → IsPrefix (run_output run) console)
     → AllByRecursion (λ r. IsPrefix r console) (map run_output (runs_in starts))
 each_released console [] each = tt
@@ -129,7 +129,7 @@ is_run r run e = cc
 no_run : (loaded : Record) (b : Bool) (run : NodeRun) → ¬ (FailsToStart loaded b ≡ Starts run)
 no_run loaded b run e = cc
 
-is_released : (starts : List Attempt) (run : NodeRun) → Contains starts (Starts run)
+is_released : (starts : List NodeStart) (run : NodeRun) → Contains starts (Starts run)
     → Contains (map run_output (runs_in starts)) (run_output run)
 is_released [] run there = absurd (none_in _ there)
 is_released (Starts r ∷ rest) run there = elim (in_cases (Starts r) rest (Starts run) there) [
@@ -143,7 +143,7 @@ is_released (FailsToStart loaded b ∷ rest) run there = elim (in_cases (FailsTo
   | inr later ↦ is_released rest run later
 ]
 
-module _ (starts : ℕ → List Attempt) (now : List Member) (shows_runs : ConsolesShowRuns starts now) where
+module _ (starts : ℕ → List NodeStart) (now : List Member) (shows_runs : ConsolesShowRuns starts now) where
   released_before : (i : ℕ) (m : Member) (runs : List TerminalRun) → member_at now i ≡ Some m → AreAtTerminal (starts i) runs
       → AllByRecursion (λ r. IsPrefix r m.console) (map (λ r. r.released) runs)
   released_before i m runs at h =

@@ -7,7 +7,7 @@ use Rattle.paxos_msg.specs.Records.{empty_record}
 use Rattle.paxos_msg.specs.declared.limits.TheConstants.{LAST_START}
 use Rattle.paxos_acceptor.specs.declared.me.Me.{Me}
 use Rattle.group_wire.specs.Process.{IsProcess}
-use Rattle.group_process.specs.Runs.{AreRuns, IsOver, Stand}
+use Rattle.group_process.specs.Runs.{AreStarts, IsOver, Stand}
 use Rattle.group_process.specs.Terminals.{WriteInTurn}
 use Rattle.group_process.specs.Wrong.{beside_a_run, byte_then, left_first, only_starts, then_over, writes_from}
 
@@ -16,16 +16,16 @@ module _ (p : Parts) (me : Me) where
       → IsProcess p me (only_starts p me loaded stand).process (only_starts p me loaded stand).last
   is_process loaded stand spare = record { spare = spare; does = refl; fails = tt }
 
-  pub right : AreRuns p me empty_record (then_over p me (IsOver false) (left_first p me))
+  pub right : AreStarts p me empty_record (then_over p me (IsOver false) (left_first p me))
   right = (
     (refl, is_process empty_record (IsOver false) (λ e. absurd (omega (arith, e))), tt),
     ((refl, is_process (left_first p me) (IsOver false) (λ e. absurd (omega (arith, e))), tt), tt),
   )
 
-  pub older_record : ¬ AreRuns p me empty_record (then_over p me (IsOver false) empty_record)
+  pub older_record : ¬ AreStarts p me empty_record (then_over p me (IsOver false) empty_record)
   older_record (first, (second, rest)) = absurd (omega (arith, ap (λ (r : Record). r.starts) second.0))
 
-  pub beside_one : ¬ AreRuns p me empty_record (beside_a_run p me)
+  pub beside_one : ¬ AreStarts p me empty_record (beside_a_run p me)
   beside_one (first, rest) = absurd (cc (first.2))
 
 pub right_bytes : (byte : ℕ) → WriteInTurn [] (byte_then byte 1 [])

@@ -16,7 +16,7 @@ use Rattle.group_wire.specs.Traffic.{Letter, letters_of}
 use Rattle.group_world.specs.declared.event.Outcome.TheVariants.{Kept}
 use Rattle.group_wire.specs.Process.{IsProcess}
 use Rattle.group_world.specs.Processes.{Entry, IsCarried, entries_of, quiet_entry}
-use Rattle.group_process.specs.Runs.{AreRuns, Attempt, FailsToStart, IsGroupLog, NodeRun, Starts, ends_by, entries_of_attempt, entry_by, runs_in}
+use Rattle.group_process.specs.Runs.{AreStarts, NodeStart, FailsToStart, IsGroupLog, NodeRun, Starts, ends_by, entries_of_start, entry_by, runs_in}
 
 -- An entry with what a receive gave for it.
 pub record GivenEntry : Type 0 where
@@ -48,10 +48,10 @@ received_in_run me run =
     ++ map (with_given (given_for run.process.failed)) (ends_by me run run.stand))
 
 -- A start as entries of its node with what receives gave.
-abbrev pub received_in : Me → Attempt → List GivenEntry
+abbrev pub received_in : Me → NodeStart → List GivenEntry
 received_in me (Starts run) = received_in_run me run
 received_in me (FailsToStart loaded is_changed) =
-    map unreceived (entries_of_attempt me (FailsToStart loaded is_changed))
+    map unreceived (entries_of_start me (FailsToStart loaded is_changed))
 
 -- The entries of one node, in order.
 abbrev pub received_by : ℕ → List GivenEntry → List GivenEntry
@@ -83,21 +83,21 @@ AreDelivered group sent (e ∷ log) =
 -- A log of the processes of a group with what was received, in one order of time. Each entry is of
 -- a node of the group, and those of each node are its runs, over a store that keeps its record.
 -- Each message that a receive gave was handed over before.
-pub record IsNetworkLog (p : Parts) (group : Group) (runs : ℕ → List Attempt)
+pub record IsNetworkLog (p : Parts) (group : Group) (starts : ℕ → List NodeStart)
     (log : List GivenEntry) : Type 0 where
   pub among : AllByRecursion (λ e. IsNode group.size e.entry.node) log
   pub entries : (i : ℕ) → received_by i log
-      ≡ flat_map (received_in (record { node = i; group = group })) (runs i)
-  pub started : (i : ℕ) → AreRuns p (record { node = i; group = group }) empty_record (runs i)
+      ≡ flat_map (received_in (record { node = i; group = group })) (starts i)
+  pub started : (i : ℕ) → AreStarts p (record { node = i; group = group }) empty_record (starts i)
   pub delivered : AreDelivered group [] log
 
 -- The runs of these starts are processes of the node, whatever records they load.
-abbrev pub AreProcesses : Parts → Me → List Attempt → Type 0
+abbrev pub AreProcesses : Parts → Me → List NodeStart → Type 0
 AreProcesses p me starts =
     AllByRecursion (λ run. IsProcess p me run.process run.last) (runs_in starts)
 
 -- The same log for starts over any stores: nothing is said of what their loads give.
-pub record IsDeliveredLog (p : Parts) (group : Group) (starts : ℕ → List Attempt)
+pub record IsDeliveredLog (p : Parts) (group : Group) (starts : ℕ → List NodeStart)
     (log : List GivenEntry) : Type 0 where
   pub among : AllByRecursion (λ e. IsNode group.size e.entry.node) log
   pub entries : (i : ℕ) → received_by i log
@@ -106,17 +106,17 @@ pub record IsDeliveredLog (p : Parts) (group : Group) (starts : ℕ → List Att
   pub delivered : AreDelivered group [] log
 
 -- A log of these starts in which all that is heard was sent before.
-pub record AreEntriesOf (group : Group) (starts : ℕ → List Attempt) (log : List Entry)
+pub record AreEntriesOf (group : Group) (starts : ℕ → List NodeStart) (log : List Entry)
     : Type 0 where
   pub among : AllByRecursion (λ e. IsNode group.size e.node) log
   pub entries : (i : ℕ) → entries_of i log
-      ≡ flat_map (entries_of_attempt (record { node = i; group = group })) (starts i)
+      ≡ flat_map (entries_of_start (record { node = i; group = group })) (starts i)
   pub carried : IsCarried group [] log
 
 -- The claim that some runs have a network log (`IsNetworkLog`) in which a message is heard, and
 -- that its entries alone are a log of these runs (`IsGroupLog`).
 abbrev pub MayHear : Parts → Group → Type 0
 MayHear p group =
-    (runs : ℕ → List Attempt) × (log : List GivenEntry) × (e : GivenEntry) × (m : Msg)
-    × IsNetworkLog p group runs log × IsGroupLog p group runs (entries_alone log) × Contains log e
-    × (e.entry.deed ≡ Hear m)
+    (starts : ℕ → List NodeStart) × (log : List GivenEntry) × (e : GivenEntry) × (m : Msg)
+    × IsNetworkLog p group starts log × IsGroupLog p group starts (entries_alone log)
+    × Contains log e × (e.entry.deed ≡ Hear m)

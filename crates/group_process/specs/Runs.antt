@@ -1,9 +1,9 @@
 -- The starts and runs of the nodes of a group, as entries of a log.
 --
--- A *start* (`Attempt`) is what a node does from one load of its store to the next. It *runs*
+-- A *start* (`NodeStart`) is what a node does from one load of its store to the next. It *runs*
 -- (`NodeRun`), or its save fails. A run has what its process did on a wire (`Process` of
 -- group_wire), the node after that, and whether it goes on (`Stand`). A node may have several
--- starts, one after the other. Of a function `runs : ℕ → List Attempt`, `runs i` are the starts of
+-- starts, one after the other. Of a function `starts : ℕ → List NodeStart`, `starts i` are those of
 -- node `i`, so that it has those of all nodes of the group.
 use Rattle.std.specs.Prelude.{◌≡◌, ◌≢◌, ◌⊎◌, ℕ, Bool, if◌then◌else◌, List, [], ◌∷◌, ◌++◌, Contains, flat_map, map, Option, Some, None}
 use Rattle.std.specs.List.{AllByRecursion}
@@ -85,14 +85,14 @@ node_by run (IsOver is_changed) = None
 
 -- A start of a node: it runs; or the save of the start over this record fails. Then the boolean
 -- says whether the store has the changed record, or else the old one.
-pub data Attempt : Type 0 where
-  Starts : NodeRun → Attempt
-  FailsToStart : Record → Bool → Attempt
+pub data NodeStart : Type 0 where
+  Starts : NodeRun → NodeStart
+  FailsToStart : Record → Bool → NodeStart
 
 -- A start as entries of its node.
-abbrev pub entries_of_attempt : Me → Attempt → List Entry
-entries_of_attempt me (Starts run) = entries_of_run me run
-entries_of_attempt me (FailsToStart loaded is_changed) =
+abbrev pub entries_of_start : Me → NodeStart → List Entry
+entries_of_start me (Starts run) = entries_of_run me run
+entries_of_start me (FailsToStart loaded is_changed) =
     (record {
       node = me.node;
       deed = Start loaded;
@@ -102,18 +102,18 @@ entries_of_attempt me (FailsToStart loaded is_changed) =
     }) ∷ []
 
 -- The record that a start leaves.
-abbrev pub record_left : Attempt → Record
+abbrev pub record_left : NodeStart → Record
 record_left (Starts run) = record_by run run.stand
 record_left (FailsToStart loaded is_changed) =
     if is_changed then changed loaded change.Start else loaded
 
 -- The node that a start leaves, if it is up.
-abbrev pub node_left : Attempt → Option Running
+abbrev pub node_left : NodeStart → Option Running
 node_left (Starts run) = node_by run run.stand
 node_left (FailsToStart loaded is_changed) = None
 
 -- A run that goes on is the last one.
-abbrev pub IsLastIfOn : Stand → List Attempt → Type 0
+abbrev pub IsLastIfOn : Stand → List NodeStart → Type 0
 IsLastIfOn GoesOn rest = rest ≡ []
 IsLastIfOn (IsOver is_changed) rest = Unit {0}
 
@@ -121,32 +121,32 @@ IsLastIfOn (IsOver is_changed) rest = Unit {0}
 -- `kept`. A run is one of the node's process, and the last start if it goes on. If the save of a
 -- start fails, the starts were not spent.
 -- Forbids: a load that gives an older record; a start while a run goes on.
-abbrev pub IsAttempt : Parts → Me → Record → Attempt → List Attempt → Type 0
-IsAttempt p me kept (Starts run) rest =
+abbrev pub IsStartOver : Parts → Me → Record → NodeStart → List NodeStart → Type 0
+IsStartOver p me kept (Starts run) rest =
     (run.process.loaded ≡ kept) × IsProcess p me run.process run.last × IsLastIfOn run.stand rest
-IsAttempt p me kept (FailsToStart loaded is_changed) rest =
+IsStartOver p me kept (FailsToStart loaded is_changed) rest =
     (loaded ≡ kept) × (loaded.starts ≢ LAST_START)
 
 -- The starts of a node, one after the other. `so` holds of what is known of its store, a start, and
 -- the starts after it. `next` gives what is known after a start.
-abbrev pub AreInTurn : {K : Type 0} → (K → Attempt → List Attempt → Type 0) → (K → Attempt → K)
-    → K → List Attempt → Type 0
+abbrev pub AreInTurn : {K : Type 0} → (K → NodeStart → List NodeStart → Type 0)
+    → (K → NodeStart → K) → K → List NodeStart → Type 0
 AreInTurn so next known [] = Unit {0}
 AreInTurn so next known (a ∷ rest) = so known a rest × AreInTurn so next (next known a) rest
 
 -- The starts of a node, one after the other, over a store that keeps its record: each load gives
 -- what the start before it left, and the first one `kept`.
 -- Allows: a run that was killed at any deed.
-abbrev pub AreRuns : Parts → Me → Record → List Attempt → Type 0
-AreRuns p me = AreInTurn (IsAttempt p me) (λ _ a. record_left a)
+abbrev pub AreStarts : Parts → Me → Record → List NodeStart → Type 0
+AreStarts p me = AreInTurn (IsStartOver p me) (λ _ a. record_left a)
 
 -- The record after these starts over a store that had the record `kept`.
-abbrev pub kept_after : Record → List Attempt → Record
+abbrev pub kept_after : Record → List NodeStart → Record
 kept_after kept [] = kept
 kept_after kept (a ∷ rest) = kept_after (record_left a) rest
 
 -- The node after these starts, if it is up.
-abbrev pub node_after : Option Running → List Attempt → Option Running
+abbrev pub node_after : Option Running → List NodeStart → Option Running
 node_after up [] = up
 node_after up (a ∷ rest) = node_after (node_left a) rest
 
@@ -156,43 +156,43 @@ pub record StandsWith (m : Member) (kept : Record) (up : Option Running) : Type 
   pub node_is : m.node ≡ up
 
 -- The claim that runs are a history of their node, which is then as they left it.
-abbrev pub AreHistory : Parts → Me → Member → List Attempt → Type 0
-AreHistory p me m runs =
-    (last : Member) × IsHistory p me m (flat_map (entries_of_attempt me) runs) last
-    × StandsWith last (kept_after m.kept runs) (node_after None runs)
+abbrev pub AreHistory : Parts → Me → Member → List NodeStart → Type 0
+AreHistory p me m starts =
+    (last : Member) × IsHistory p me m (flat_map (entries_of_start me) starts) last
+    × StandsWith last (kept_after m.kept starts) (node_after None starts)
 
 -- ---- a group
 
--- A log of the runs of a group, in one order of time. `runs i` are the starts of node `i`, over a
+-- A log of the runs of a group, in one order of time. `starts i` are those of node `i`, over a
 -- store that has the empty record at first and keeps its record. Each entry is of a node of the
 -- group, and those of each node are its runs. What is heard was sent before.
-pub record IsGroupLog (p : Parts) (group : Group) (runs : ℕ → List Attempt)
+pub record IsGroupLog (p : Parts) (group : Group) (starts : ℕ → List NodeStart)
     (log : List Entry) : Type 0 where
   pub among : AllByRecursion (λ e. IsNode group.size e.node) log
   pub entries : (i : ℕ) → entries_of i log
-      ≡ flat_map (entries_of_attempt (record { node = i; group = group })) (runs i)
-  pub started : (i : ℕ) → AreRuns p (record { node = i; group = group }) empty_record (runs i)
+      ≡ flat_map (entries_of_start (record { node = i; group = group })) (starts i)
+  pub started : (i : ℕ) → AreStarts p (record { node = i; group = group }) empty_record (starts i)
   pub carried : IsCarried group [] log
 
 -- All nodes of a group, each with the record that its runs left, and up, or down, as they left it.
 -- Forbids: a node of the group that is not there.
-abbrev pub AreAsRun : Group → (ℕ → List Attempt) → List Member → Type 0
-AreAsRun group runs now =
+abbrev pub AreAsRun : Group → (ℕ → List NodeStart) → List Member → Type 0
+AreAsRun group starts now =
     (i : ℕ) → IsNode group.size i
     → (m : Member) × (member_at now i ≡ Some m)
-    × StandsWith m (kept_after empty_record (runs i)) (node_after None (runs i))
+    × StandsWith m (kept_after empty_record (starts i)) (node_after None (starts i))
 
 -- The nodes `now` of a group after a log of the runs of its processes.
 -- They are those that the log leaves, with their consoles, and each is as its runs left it.
-pub record IsAfterRuns (p : Parts) (group : Group) (runs : ℕ → List Attempt) (log : List Entry)
+pub record IsAfterRuns (p : Parts) (group : Group) (starts : ℕ → List NodeStart) (log : List Entry)
     (now : List Member) : Type 0 where
-  pub ran : IsGroupLog p group runs log
+  pub ran : IsGroupLog p group starts log
   pub nodes : IsLog (new_world p group) log now
-  pub as_run : AreAsRun group runs now
+  pub as_run : AreAsRun group starts now
 
 -- The claim that a log of runs leaves such nodes.
-abbrev pub LeaveNodes : Parts → Group → (ℕ → List Attempt) → List Entry → Type 0
-LeaveNodes p group runs log = (now : List Member) × IsAfterRuns p group runs log now
+abbrev pub LeaveNodes : Parts → Group → (ℕ → List NodeStart) → List Entry → Type 0
+LeaveNodes p group starts log = (now : List Member) × IsAfterRuns p group starts log now
 
 -- A run that was cut off at a deed: it started as this run did, did the first of its deeds, and
 -- goes on.
@@ -204,22 +204,22 @@ pub record IsCutOff (cut run : NodeRun) : Type 0 where
   pub goes_on : cut.stand ≡ GoesOn
 
 -- The same of a start. One whose save failed has no deeds, so it is not cut off.
-abbrev pub IsCutStart : Attempt → Attempt → Type 0
+abbrev pub IsCutStart : NodeStart → NodeStart → Type 0
 IsCutStart (Starts cut) (Starts run) = IsCutOff cut run
 IsCutStart _ _ = ⊥
 
 -- The first of some runs, of which the last one may be cut off.
-abbrev pub AreFirstRuns : List Attempt → List Attempt → Type 0
-AreFirstRuns [] runs = Unit {0}
+abbrev pub AreFirstRuns : List NodeStart → List NodeStart → Type 0
+AreFirstRuns [] starts = Unit {0}
 AreFirstRuns (a ∷ cut) [] = ⊥
-AreFirstRuns (a ∷ cut) (b ∷ runs) =
-    ((a ≡ b) × AreFirstRuns cut runs) ⊎ ((cut ≡ []) × IsCutStart a b)
+AreFirstRuns (a ∷ cut) (b ∷ starts) =
+    ((a ≡ b) × AreFirstRuns cut starts) ⊎ ((cut ≡ []) × IsCutStart a b)
 
 -- The claim that this is a log of runs, which are the first of these.
-abbrev pub HasRuns : Parts → Group → (ℕ → List Attempt) → List Entry → Type 0
-HasRuns p group runs log =
-    (cut : ℕ → List Attempt) × IsGroupLog p group cut log
-    × ((i : ℕ) → AreFirstRuns (cut i) (runs i))
+abbrev pub HasRuns : Parts → Group → (ℕ → List NodeStart) → List Entry → Type 0
+HasRuns p group starts log =
+    (cut : ℕ → List NodeStart) × IsGroupLog p group cut log
+    × ((i : ℕ) → AreFirstRuns (cut i) (starts i))
 
 -- ---- claims about runs
 
@@ -232,27 +232,27 @@ state_after p group log now = world_state (after_log (new_world p group) log now
 -- are of the same nodes. Each front of a log of runs is one too, so they hold at each moment.
 abbrev pub AlwaysOfRuns : (WorldState → Type 0) → Type 0
 AlwaysOfRuns P =
-    (p : Parts) (group : Group) (runs : ℕ → List Attempt) (log : List Entry) (now : List Member)
-    → IsSize group.size → IsGroup group → IsAfterRuns p group runs log now
+    (p : Parts) (group : Group) (starts : ℕ → List NodeStart) (log : List Entry) (now : List Member)
+    → IsSize group.size → IsGroup group → IsAfterRuns p group starts log now
     → P (state_after p group log now)
 
 -- The same of what relates the nodes to their runs.
-abbrev pub AlwaysOfNodes : ((ℕ → List Attempt) → List Member → Type 0) → Type 0
+abbrev pub AlwaysOfNodes : ((ℕ → List NodeStart) → List Member → Type 0) → Type 0
 AlwaysOfNodes Q =
-    (p : Parts) (group : Group) (runs : ℕ → List Attempt) (log : List Entry) (now : List Member)
-    → IsSize group.size → IsGroup group → IsAfterRuns p group runs log now → Q runs now
+    (p : Parts) (group : Group) (starts : ℕ → List NodeStart) (log : List Entry) (now : List Member)
+    → IsSize group.size → IsGroup group → IsAfterRuns p group starts log now → Q starts now
 
 -- What holds of every two moments of a log: `mid` are the nodes after its front, whose runs are
 -- `cut`, and `now` those after all of it.
 abbrev pub AlwaysLaterOfRuns : (WorldState → WorldState → Type 0) → Type 0
 AlwaysLaterOfRuns P =
-    (p : Parts) (group : Group) (cut runs : ℕ → List Attempt) (log more : List Entry)
+    (p : Parts) (group : Group) (cut starts : ℕ → List NodeStart) (log more : List Entry)
     (mid now : List Member) → IsSize group.size → IsGroup group → IsAfterRuns p group cut log mid
-    → IsAfterRuns p group runs (log ++ more) now
+    → IsAfterRuns p group starts (log ++ more) now
     → P (state_after p group log mid) (state_after p group (log ++ more) now)
 
 -- The runs of these starts.
-abbrev pub runs_in : List Attempt → List NodeRun
+abbrev pub runs_in : List NodeStart → List NodeRun
 runs_in [] = []
 runs_in (Starts run ∷ rest) = run ∷ runs_in rest
 runs_in (FailsToStart loaded is_changed ∷ rest) = runs_in rest
@@ -269,16 +269,16 @@ run_output run = output_of run.last
 -- or is over.
 -- Allows: a console that shows more, from another run.
 -- Forbids: a released byte that the console does not have.
-abbrev pub ConsolesShowRuns : (ℕ → List Attempt) → List Member → Type 0
-ConsolesShowRuns runs now =
+abbrev pub ConsolesShowRuns : (ℕ → List NodeStart) → List Member → Type 0
+ConsolesShowRuns starts now =
     (i : ℕ) (m : Member) (run : NodeRun) → member_at now i ≡ Some m
-    → Contains (runs i) (Starts run) → IsPrefix (run_output run) m.console
+    → Contains (starts i) (Starts run) → IsPrefix (run_output run) m.console
 
 -- The console of each node is what one of its runs has released, or nothing. So it is the longest
 -- of what they have released.
 -- Forbids: a byte on the console that no run has released.
-abbrev pub ConsolesAreReleased : (ℕ → List Attempt) → List Member → Type 0
-ConsolesAreReleased runs now =
+abbrev pub ConsolesAreReleased : (ℕ → List NodeStart) → List Member → Type 0
+ConsolesAreReleased starts now =
     (i : ℕ) (m : Member) → member_at now i ≡ Some m
     → (m.console ≡ [])
-    ⊎ ((run : NodeRun) × Contains (runs i) (Starts run) × (m.console ≡ run_output run))
+    ⊎ ((run : NodeRun) × Contains (starts i) (Starts run) × (m.console ≡ run_output run))

@@ -3,7 +3,7 @@ use Rattle.std.specs.Prelude.{◌≡◌, ◌≤◌, ℕ, List, [], ◌∷◌, �
 use Rattle.pcode_machine.specs.Runs.{IsPrefix}
 use Rattle.group_world.specs.Group.{member_at}
 use Rattle.group_world.specs.Member.{Member}
-use Rattle.group_process.specs.Runs.{Attempt, run_output, runs_in}
+use Rattle.group_process.specs.Runs.{NodeStart, run_output, runs_in}
 
 -- A run of a node at its terminal: what it had released by its end; how many bytes of the terminal
 -- were kept before it; the number of the first byte that it was to write, its `--seen`; and what it
@@ -53,28 +53,28 @@ LoseNothing shown (run ∷ runs) =
 
 -- The runs of these starts at the terminal of their node, which had nothing at first.
 -- Forbids: a run that is left out; what no run has released.
-pub record AreAtTerminal (starts : List Attempt) (runs : List TerminalRun) : Type 0 where
+pub record AreAtTerminal (starts : List NodeStart) (runs : List TerminalRun) : Type 0 where
   pub released : map (λ run. run.released) runs ≡ map run_output (runs_in starts)
   pub writes : WriteInTurn [] runs
 
 -- The terminal of each node shows the front of its console.
 -- Allows: bytes at the end of the console that are not on the terminal yet.
 -- Forbids: a byte that is there twice, or left out before another one.
-abbrev pub TerminalsShowConsoles : (ℕ → List Attempt) → List Member → Type 0
+abbrev pub TerminalsShowConsoles : (ℕ → List NodeStart) → List Member → Type 0
 TerminalsShowConsoles starts now =
     (i : ℕ) (m : Member) (runs : List TerminalRun) → member_at now i ≡ Some m
     → AreAtTerminal (starts i) runs → IsPrefix (terminal_after [] runs) m.console
 
 -- The terminal of a node shows all that its last run has released, if that run has written all that
 -- it had to.
-abbrev pub TerminalsShowLastRuns : (ℕ → List Attempt) → List Member → Type 0
+abbrev pub TerminalsShowLastRuns : (ℕ → List NodeStart) → List Member → Type 0
 TerminalsShowLastRuns starts now =
     (i : ℕ) (m : Member) (runs : List TerminalRun) (last : TerminalRun) → member_at now i ≡ Some m
     → AreAtTerminal (starts i) (runs ++ last ∷ []) → WritesWhole last
     → IsPrefix last.released (terminal_after [] (runs ++ last ∷ []))
 
 -- The terminal of a node shows exactly its console, if nothing was lost.
-abbrev pub TerminalsAreConsoles : (ℕ → List Attempt) → List Member → Type 0
+abbrev pub TerminalsAreConsoles : (ℕ → List NodeStart) → List Member → Type 0
 TerminalsAreConsoles starts now =
     (i : ℕ) (m : Member) (runs : List TerminalRun) → member_at now i ≡ Some m
     → AreAtTerminal (starts i) runs → LoseNothing [] runs → terminal_after [] runs ≡ m.console

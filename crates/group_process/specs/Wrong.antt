@@ -6,7 +6,7 @@ use Rattle.paxos_msg.specs.Batches.{Record}
 use Rattle.paxos_msg.specs.Records.{empty_record}
 use Rattle.paxos_acceptor.specs.declared.me.Me.{Me}
 use Rattle.group_wire.specs.Process.{started}
-use Rattle.group_process.specs.Runs.{Attempt, GoesOn, IsOver, NodeRun, Stand, Starts, record_by}
+use Rattle.group_process.specs.Runs.{NodeStart, GoesOn, IsOver, NodeRun, Stand, Starts, record_by}
 use Rattle.group_process.specs.Terminals.{TerminalRun}
 
 -- A run over this record that has done nothing but start, and goes on or was killed.
@@ -18,7 +18,7 @@ only_starts p me loaded stand = record {
 }
 
 -- A first run over no record, and a second one over this record.
-abbrev pub then_over : Parts → Me → Stand → Record → List Attempt
+abbrev pub then_over : Parts → Me → Stand → Record → List NodeStart
 then_over p me first loaded =
     Starts (only_starts p me empty_record first) ∷ Starts (only_starts p me loaded (IsOver false))
     ∷ []
@@ -28,7 +28,7 @@ abbrev pub left_first : Parts → Me → Record
 left_first p me = record_by (only_starts p me empty_record (IsOver false)) (IsOver false)
 
 -- A second run over that record, while the first one goes on.
-abbrev pub beside_a_run : Parts → Me → List Attempt
+abbrev pub beside_a_run : Parts → Me → List NodeStart
 beside_a_run p me = then_over p me GoesOn (left_first p me)
 
 -- A run that has released these bytes, and was to write from number `seen` on at a terminal of

@@ -15,7 +15,7 @@ ghost use Rattle.group_world.specs.Member.{Member};
 ghost use Rattle.group_rules.specs.Claims.{ConsolesAgree, ConsolesGrow, ConsolesHoldOutput, ConsolesShowReleased, HasNoGap, KeysOnce, LearnedAgree, LearnedChosen, LearnedStays, SerialsInOrder};
 ghost use Rattle.group_world.specs.Processes.{Entry};
 ghost use Rattle.group_process.specs.Network.{AreEntriesOf, GivenEntry, IsDeliveredLog, IsNetworkLog, MayHear, entries_alone};
-ghost use Rattle.group_process.specs.Runs.{AlwaysLaterOfRuns, AlwaysOfNodes, AlwaysOfRuns, AreHistory, AreRuns, Attempt, ConsolesAreReleased, ConsolesShowRuns, HasRuns, IsAfterRuns, IsGroupLog, IsOver, LeaveNodes};
+ghost use Rattle.group_process.specs.Runs.{AlwaysLaterOfRuns, AlwaysOfNodes, AlwaysOfRuns, AreHistory, AreStarts, NodeStart, ConsolesAreReleased, ConsolesShowRuns, HasRuns, IsAfterRuns, IsGroupLog, IsOver, LeaveNodes};
 ghost use Rattle.group_process.specs.Wrong.{beside_a_run, byte_then, left_first, then_over, writes_from};
 ghost use Rattle.paxos_msg.specs.Records.{empty_record};
 ghost use Rattle.group_process.specs.Terminals.{TerminalsAreConsoles, TerminalsShowConsoles, TerminalsShowLastRuns, WriteInTurn, terminal_after};
@@ -39,18 +39,18 @@ pub fn what_is_given_was_sent()
 /// The runs of a node, one after the other, are a history of it, over a store that keeps its
 /// record.
 pub fn runs_are_histories()
-    ensures { (p : Parts) (me : Me) (m : Member) (runs : List Attempt) → m.node ≡ None
-        → AreRuns p me m.kept runs → AreHistory p me m runs }
+    ensures { (p : Parts) (me : Me) (m : Member) (starts : List NodeStart) → m.node ≡ None
+        → AreStarts p me m.kept starts → AreHistory p me m starts }
 {}
 
 /// After a log of runs there are nodes (`IsAfterRuns`): all nodes of the group, each with the
 /// record that its runs left, and up or down as they left it. There is only one such list of nodes,
 /// whichever runs the log is taken for.
-pub fn processes_make_a_log()
-    ensures nodes { (p : Parts) (group : Group) (runs : ℕ → List Attempt) (log : List Entry)
-        → IsGroupLog p group runs log → LeaveNodes p group runs log }
-    ensures only { (p : Parts) (group : Group) (runs others : ℕ → List Attempt) (log : List Entry)
-        (now other : List Member) → IsAfterRuns p group runs log now
+pub fn logs_leave_nodes()
+    ensures nodes { (p : Parts) (group : Group) (starts : ℕ → List NodeStart) (log : List Entry)
+        → IsGroupLog p group starts log → LeaveNodes p group starts log }
+    ensures only { (p : Parts) (group : Group) (starts others : ℕ → List NodeStart)
+        (log : List Entry) (now other : List Member) → IsAfterRuns p group starts log now
         → IsAfterRuns p group others log other → other ≡ now }
 {
     runs_are_histories();
@@ -60,18 +60,18 @@ pub fn processes_make_a_log()
 /// Each prefix of a log of runs is a log of runs: of the first ones of each node, of which the last
 /// one may be cut off at a deed. So what holds at the end of every log holds at each moment of one.
 pub fn fronts_of_runs()
-    ensures { (p : Parts) (group : Group) (runs : ℕ → List Attempt) (log more : List Entry)
-        → IsGroupLog p group runs (log ++ more) → HasRuns p group runs log }
+    ensures { (p : Parts) (group : Group) (starts : ℕ → List NodeStart) (log more : List Entry)
+        → IsGroupLog p group starts (log ++ more) → HasRuns p group starts log }
 {}
 
 /// If each message that a receive gave was handed over before (`IsNetworkLog`), the entries alone
 /// are a log of the runs (`IsGroupLog`). Over any stores (`IsDeliveredLog`) they are entries of the
 /// starts, and what is heard was sent before (`AreEntriesOf`).
 pub fn networks_carry()
-    ensures runs { (p : Parts) (group : Group) (runs : ℕ → List Attempt) (log : List GivenEntry)
-        → IsGroup group → IsNetworkLog p group runs log
-        → IsGroupLog p group runs (entries_alone log) }
-    ensures starts { (p : Parts) (group : Group) (starts : ℕ → List Attempt)
+    ensures runs { (p : Parts) (group : Group) (starts : ℕ → List NodeStart) (log : List GivenEntry)
+        → IsGroup group → IsNetworkLog p group starts log
+        → IsGroupLog p group starts (entries_alone log) }
+    ensures starts { (p : Parts) (group : Group) (starts : ℕ → List NodeStart)
         (log : List GivenEntry) → IsGroup group → IsDeliveredLog p group starts log
         → AreEntriesOf group starts (entries_alone log) }
 {
@@ -96,11 +96,11 @@ pub fn runs_may_hear()
 /// - What the last run has released is there once that run has written all that it had to.
 /// - If nothing was lost, the terminal is the console.
 pub fn terminals_are_consoles()
-    ensures shows { (starts : ℕ → List Attempt) (now : List Member)
+    ensures shows { (starts : ℕ → List NodeStart) (now : List Member)
         → ConsolesShowRuns starts now → TerminalsShowConsoles starts now }
-    ensures last { (starts : ℕ → List Attempt) (now : List Member)
+    ensures last { (starts : ℕ → List NodeStart) (now : List Member)
         → ConsolesShowRuns starts now → TerminalsShowLastRuns starts now }
-    ensures whole { (starts : ℕ → List Attempt) (now : List Member) → ConsolesShowRuns starts now
+    ensures whole { (starts : ℕ → List NodeStart) (now : List Member) → ConsolesShowRuns starts now
         → ConsolesAreReleased starts now → TerminalsAreConsoles starts now }
 {}
 
@@ -120,11 +120,11 @@ pub fn wrong_seen()
 /// one loaded, and not over the one that it left, is none; nor is one beside a run that goes on.
 pub fn wrong_runs()
     ensures right { (p : Parts) (me : Me)
-        → AreRuns p me empty_record (then_over p me (IsOver false) (left_first p me)) }
+        → AreStarts p me empty_record (then_over p me (IsOver false) (left_first p me)) }
     ensures older_record { (p : Parts) (me : Me)
-        → ¬ AreRuns p me empty_record (then_over p me (IsOver false) empty_record) }
+        → ¬ AreStarts p me empty_record (then_over p me (IsOver false) empty_record) }
     ensures beside_one { (p : Parts) (me : Me)
-        → ¬ AreRuns p me empty_record (beside_a_run p me) }
+        → ¬ AreStarts p me empty_record (beside_a_run p me) }
 {}
 
 /// What no runs write at a terminal, and the right runs beside it. A byte that is there is not
@@ -144,7 +144,7 @@ pub fn wrong_terminals()
 /// keep their records and a network that carries what was sent.
 ///
 /// - Such a log leaves nodes: all nodes of the group, each as its runs left it. It leaves no others
-/// (`processes_make_a_log`), and all claims are of these nodes.
+/// (`logs_leave_nodes`), and all claims are of these nodes.
 /// - Each front of a log is a log too. So the claims hold at each moment, and the last two between
 /// each two moments.
 /// - The console of a node begins with what each of its runs has released, also when the run is
@@ -152,10 +152,11 @@ pub fn wrong_terminals()
 /// - A terminal shows a prefix of its node's console, and all of it if nothing was lost
 /// (`terminals_are_consoles`).
 pub fn runs_headline()
-    ensures nodes { (p : Parts) (group : Group) (runs : ℕ → List Attempt) (log : List Entry)
-        → IsGroupLog p group runs log → LeaveNodes p group runs log }
-    ensures fronts { (p : Parts) (group : Group) (runs : ℕ → List Attempt) (log more : List Entry)
-        → IsGroupLog p group runs (log ++ more) → HasRuns p group runs log }
+    ensures nodes { (p : Parts) (group : Group) (starts : ℕ → List NodeStart) (log : List Entry)
+        → IsGroupLog p group starts log → LeaveNodes p group starts log }
+    ensures fronts { (p : Parts) (group : Group) (starts : ℕ → List NodeStart)
+        (log more : List Entry)
+        → IsGroupLog p group starts (log ++ more) → HasRuns p group starts log }
     ensures learned_agree { AlwaysOfRuns LearnedAgree }
     ensures learned_chosen { AlwaysOfRuns LearnedChosen }
     ensures consoles_hold_output { AlwaysOfRuns ConsolesHoldOutput }
@@ -172,7 +173,7 @@ pub fn runs_headline()
     ensures learned_stays { AlwaysLaterOfRuns LearnedStays }
     ensures consoles_grow { AlwaysLaterOfRuns ConsolesGrow }
 {
-    processes_make_a_log();
+    logs_leave_nodes();
     fronts_of_runs();
     processes_headline();
     processes_show();

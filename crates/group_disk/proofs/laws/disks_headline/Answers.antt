@@ -3,7 +3,7 @@ use Rattle.pcode_file.specs.Parts.{Parts}
 use Rattle.paxos_msg.specs.declared.message.Group.{Group}
 use Rattle.group_world.specs.Processes.{Entry}
 use Rattle.group_world.specs.Member.{Member}
-use Rattle.group_process.specs.Runs.{Attempt, ConsolesAreReleased, ConsolesShowRuns}
+use Rattle.group_process.specs.Runs.{NodeStart, ConsolesAreReleased, ConsolesShowRuns}
 use Rattle.group_process.specs.Terminals.{TerminalsAreConsoles, TerminalsShowConsoles, TerminalsShowLastRuns}
 use Rattle.group_disk.specs.Headline.{AlwaysOfDiskNodes, HaveMomentOfDisks}
 use Rattle.group_disk.specs.Restarts.{IsDiskLog}
@@ -13,8 +13,8 @@ use Rattle.group_disk.proofs.DiskMoments.{AlikeLaw, grow_by_seats, later_of_disk
 use Rattle.group_disk.proofs.laws.disks_headline.Goals as goal
 
 -- what follows of the consoles and of what was released
-of_seen : goal.After-prefixes_are_ordered → (Q : (ℕ → List Attempt) → List Member → Type 0)
-    → ((starts : ℕ → List Attempt) (now : List Member) → ConsolesShowRuns starts now → ConsolesAreReleased starts now → Q starts now)
+of_seen : goal.After-prefixes_are_ordered → (Q : (ℕ → List NodeStart) → List Member → Type 0)
+    → ((starts : ℕ → List NodeStart) (now : List Member) → ConsolesShowRuns starts now → ConsolesAreReleased starts now → Q starts now)
     → AlwaysOfDiskNodes Q
 of_seen c Q follows p group restarts log now size session h =
     let claims = c.runs_headline.ensures in
@@ -27,7 +27,7 @@ alike c p group restarts log now other size session =
     seen_alike (shows_over_disks claims.shows_runs) (released_over_disks claims.only_released) c.prefixes_are_ordered.ensures.both p
     group restarts log size session now other
 
-moments : goal.After-prefixes_are_ordered → (p : Parts) (group : Group) (restarts : ℕ → List Attempt) (log more : List Entry)
+moments : goal.After-prefixes_are_ordered → (p : Parts) (group : Group) (restarts : ℕ → List NodeStart) (log more : List Entry)
     → IsDiskLog p group restarts (log ++ more) → HaveMomentOfDisks p group restarts log more
 moments c p group restarts log more h =
     let (cut, before, first) = c.fronts_of_disks.ensures p group restarts log more h in (

@@ -9,7 +9,7 @@ use Rattle.group_rules.specs.Claims.{ConsolesAgree, ConsolesGrow, ConsolesHoldOu
 use Rattle.group_world.specs.Member.{Member}
 use Rattle.group_rules.specs.Claims.{ConsolesShowReleased, KeysOnce, SerialsInOrder}
 use Rattle.group_world.specs.Processes.{AlwaysLaterOfProcesses, AlwaysOfProcesses, Entry, after_log}
-use Rattle.group_process.specs.Runs.{AlwaysLaterOfRuns, AlwaysOfNodes, AlwaysOfRuns, Attempt, ConsolesAreReleased, ConsolesShowRuns, state_after}
+use Rattle.group_process.specs.Runs.{AlwaysLaterOfRuns, AlwaysOfNodes, AlwaysOfRuns, NodeStart, ConsolesAreReleased, ConsolesShowRuns, state_after}
 use Rattle.group_process.specs.Terminals.{TerminalsAreConsoles, TerminalsShowConsoles, TerminalsShowLastRuns}
 use Rattle.group_process.proofs.RunsShow.{LogLaws, only_released, runs_show}
 use Rattle.group_process.proofs.laws.runs_headline.Goals as goal
@@ -30,8 +30,8 @@ later_of_runs laws P always p group cut runs log more mid now size session first
     (always p group log more mid now size session first.nodes (rw same at moment.after))
 
 -- what follows of the consoles and of what was released
-of_nodes : LogLaws → (Q : (ℕ → List Attempt) → List Member → Type 0)
-    → ((starts : ℕ → List Attempt) (now : List Member) → ConsolesShowRuns starts now → ConsolesAreReleased starts now → Q starts now)
+of_nodes : LogLaws → (Q : (ℕ → List NodeStart) → List Member → Type 0)
+    → ((starts : ℕ → List NodeStart) (now : List Member) → ConsolesShowRuns starts now → ConsolesAreReleased starts now → Q starts now)
     → AlwaysOfNodes Q
 of_nodes laws Q follows p group runs log now size session h =
     follows runs now (runs_show laws p group runs log now size session h) (only_released laws p group runs log now size session h)
@@ -44,7 +44,7 @@ returns c =
     let claims = c.processes_headline.ensures in
     let terminals = c.terminals_are_consoles.ensures in
     record {
-      nodes = c.processes_make_a_log.ensures.nodes;
+      nodes = c.logs_leave_nodes.ensures.nodes;
       fronts = c.fronts_of_runs.ensures;
       learned_agree = of_runs LearnedAgree claims.learned_agree;
       learned_chosen = of_runs LearnedChosen claims.learned_chosen;

@@ -1,5 +1,5 @@
 use Rattle.group_process.proofs.GroupLogs.{group_log}
-use Rattle.group_process.proofs.laws.processes_make_a_log.Goals as goal
+use Rattle.group_process.proofs.laws.logs_leave_nodes.Goals as goal
 
 pub returns : goal.returns
 returns c = record {
