@@ -24,7 +24,7 @@ use Rattle.group_world.specs.Group.{member_at, seat_of_member, up_of}
 use Rattle.group_world.specs.Member.{Member}
 use Rattle.group_world.specs.Processes.{Entry, entries_of, quiet_entry}
 use Rattle.group_process.proofs.RunFronts.{still_start}
-use Rattle.group_process.specs.Runs.{AlwaysLaterOfRuns, AreFirstRuns, AreStarts, NodeStart, FailsToStart, IsAfterRuns, IsStartOver, IsCutOff, IsCutStart, IsGroupLog, IsLastIfOn, LeaveNodes, NodeRun, Stand, Starts, ends_by, entries_of_start, entry_by, record_left, state_after}
+use Rattle.group_process.specs.Runs.{AlwaysLaterOfRuns, AreFirstRuns, AreStarts, NodeStart, FailsToStart, IsAfterRuns, IsStartFrom, IsCutOff, IsCutStart, IsGroupLog, IsLastIfOn, LeaveNodes, NodeRun, Stand, Starts, ends_by, entries_of_start, entry_by, record_left, state_after}
 use Rattle.group_disk.specs.Restarts.{AreChosenRuns, AreRestarts, IsChosenLog, IsDiskLog, IsRestart, IsSameStand, found_after}
 use Rattle.group_disk.specs.Headline.{AlwaysLaterOfDisks, AreMomentsOfDisks, AreSeenAlike, IsAfterDisks}
 use Rattle.group_disk.proofs.DiskClaims.{state_same}
@@ -67,7 +67,7 @@ module _ (p : Parts) (me : Me) where
   stood run stand = record run { stand = stand }
 
   cut_after_run : (run : NodeRun) (stand : Stand) (cut restarts others : List NodeStart) (kept : Record) → IsSameStand run.stand stand
-      → IsStartOver p me kept (Starts (stood run stand)) others → CutOfBoth cut restarts others (record_left (Starts (stood run stand)))
+      → IsStartFrom p me kept (Starts (stood run stand)) others → CutOfBoth cut restarts others (record_left (Starts (stood run stand)))
       → CutOfBoth (Starts run ∷ cut) (Starts run ∷ restarts) (Starts (stood run stand) ∷ others) kept
   cut_after_run run stand cut restarts others kept same over c = record {
     front = Starts (stood run stand) ∷ c.front;
@@ -104,7 +104,7 @@ module _ (p : Parts) (me : Me) where
       ∙ ap (λ (s : Stand). ((start cut.process.loaded ∷ (deeds cut.process.doings ++ ends_by me cut s)) ++ []) ++ later) (sym off.goes_on)
 
   cut_in_run : (cut run : NodeRun) (stand : Stand) (restarts others : List NodeStart) (kept : Record) → IsCutOff cut run
-      → IsSameStand run.stand stand → IsProcess p me cut.process cut.last → IsStartOver p me kept (Starts (stood run stand)) others
+      → IsSameStand run.stand stand → IsProcess p me cut.process cut.last → IsStartFrom p me kept (Starts (stood run stand)) others
       → AreChosenRuns restarts others
       → CutOfBoth (Starts cut ∷ []) (Starts run ∷ restarts) (Starts (stood run stand) ∷ others) kept
   cut_in_run cut run stand restarts others kept off same process over chosen = record {
@@ -128,7 +128,7 @@ module _ (p : Parts) (me : Me) where
 
   cut_in_start : (a : NodeStart) (run : NodeRun) (stand : Stand) (found : List Record) (rest restarts others : List NodeStart)
       (kept : Record) → IsCutStart a (Starts run) → IsRestart p me found a rest → IsSameStand run.stand stand
-      → IsStartOver p me kept (Starts (stood run stand)) others → AreChosenRuns restarts others
+      → IsStartFrom p me kept (Starts (stood run stand)) others → AreChosenRuns restarts others
       → CutOfBoth (a ∷ []) (Starts run ∷ restarts) (Starts (stood run stand) ∷ others) kept
   cut_in_start (Starts cut) run stand found rest restarts others kept off start same over chosen =
       cut_in_run cut run stand restarts others kept off same start.1 over chosen
@@ -153,7 +153,7 @@ module _ (p : Parts) (me : Me) where
   }
 
   cut_after_made : (loaded : Record) (b : _) (cut restarts others : List NodeStart) (kept : Record)
-      → IsStartOver p me kept (FailsToStart loaded true) others
+      → IsStartFrom p me kept (FailsToStart loaded true) others
       → CutOfBoth cut restarts others (record_left (FailsToStart loaded true))
       → CutOfBoth (FailsToStart loaded b ∷ cut) (FailsToStart loaded b ∷ restarts) (FailsToStart loaded true ∷ others) kept
   cut_after_made loaded b cut restarts others kept over c = record {

@@ -16,7 +16,7 @@ use Rattle.group_wire.specs.Doings.{DoesAll, Doing}
 use Rattle.group_wire.specs.Process.{IsProcess, Process, started}
 use Rattle.group_world.specs.declared.event.Outcome.TheVariants.{Kept}
 use Rattle.group_world.specs.Processes.{Entry, IsCarried, entries_of, quiet_entry}
-use Rattle.group_process.specs.Runs.{AreFirstRuns, AreInTurn, NodeStart, FailsToStart, GoesOn, HasRuns, IsStartOver, IsGroupLog, NodeRun, Starts, ends_by, entries_of_start, entry_by, record_left}
+use Rattle.group_process.specs.Runs.{AreFirstRuns, AreInTurn, NodeStart, FailsToStart, GoesOn, HasRuns, IsStartFrom, IsGroupLog, NodeRun, Starts, ends_by, entries_of_start, entry_by, record_left}
 
 -- ---- lists
 
@@ -91,10 +91,10 @@ module _ (p : Parts) (me : Me) where
         (cut : List NodeStart) × AreInTurn so next known cut × (es ≡ flat_map (entries_of_start me) cut) × AreFirstRuns cut runs
 
     -- a front of the entries of a start that ends in it
-    cut_start_over : (known : K) (a : NodeStart) (rest : List NodeStart) (es : List Entry) (y : Entry) (fs : List Entry)
+    cut_start_from : (known : K) (a : NodeStart) (rest : List NodeStart) (es : List Entry) (y : Entry) (fs : List Entry)
         → so known a rest → entries_of_start me a ≡ es ++ y ∷ fs → FrontOf (a ∷ rest) known es
-    cut_start_over known (Starts run) others [] y fs any e = ([], tt, refl, tt)
-    cut_start_over known (Starts run) others (x ∷ es) y fs any e =
+    cut_start_from known (Starts run) others [] y fs any e = ([], tt, refl, tt)
+    cut_start_from known (Starts run) others (x ∷ es) y fs any e =
         let h = may.runs known run others any in
         let start = quiet_entry me.node (Start run.process.loaded) in
         let head : x ≡ start = cc in
@@ -107,7 +107,7 @@ module _ (p : Parts) (me : Me) where
           rw (append-nil, append-nil) (ap (λ z. z ∷ es) head ∙ ap (λ l. start ∷ l) (sym entries)),
           inr (refl, record { loaded = refl; rest = rest; doings = whole; failed = refl; goes_on = refl }),
         )
-    cut_start_over known (FailsToStart loaded is_changed) rest es y fs any e =
+    cut_start_from known (FailsToStart loaded is_changed) rest es y fs any e =
         ([], tt, nil_from_length es (omega (arith, ap length e, length-append es (y ∷ fs))), tt)
 
     -- a front of the entries of starts
@@ -124,17 +124,17 @@ module _ (p : Parts) (me : Me) where
                 whole ∙ ap (λ l. entries_of_start me a ++ l) entries,
                 inl (refl, some),
               )
-          | inr (y, rest, whole) ↦ cut_start_over known a runs es y rest first whole
+          | inr (y, rest, whole) ↦ cut_start_from known a runs es y rest first whole
         ]
 
   -- a run that goes on stays the last one
-  pub still_start : (kept : Record) (a : NodeStart) (rest cut : List NodeStart) → IsStartOver p me kept a rest → AreFirstRuns cut rest
-      → IsStartOver p me kept a cut
+  pub still_start : (kept : Record) (a : NodeStart) (rest cut : List NodeStart) → IsStartFrom p me kept a rest → AreFirstRuns cut rest
+      → IsStartFrom p me kept a cut
   still_start kept a rest [] start some = grind arith
   still_start kept a rest (b ∷ cut) start some = grind arith
 
   -- so it is of runs over a store that keeps its record
-  runs_may_be_cut : MayBeCut p me (IsStartOver p me)
+  runs_may_be_cut : MayBeCut p me (IsStartFrom p me)
   runs_may_be_cut = record {
     runs = λ kept run rest h. h.1;
     cut = λ kept run rest process mid h loaded runs. (loaded ∙ h.0, runs, refl);
@@ -147,8 +147,8 @@ pub log_front : (p : Parts) (group : Group) (runs : ℕ → List NodeStart) (log
     → HasRuns p group runs log
 log_front p group runs log more h =
     let me : ℕ → Me = λ i. record { node = i; group = group } in
-    let one : (i : ℕ) → FrontOf p (me i) (IsStartOver p (me i)) (λ _ a. record_left a) (runs_may_be_cut p (me i)) (runs i) empty_record
-    (entries_of i log) = λ i. cut_starts p (me i) (IsStartOver p (me i)) (λ _ a. record_left a) (runs_may_be_cut p (me i))
+    let one : (i : ℕ) → FrontOf p (me i) (IsStartFrom p (me i)) (λ _ a. record_left a) (runs_may_be_cut p (me i)) (runs i) empty_record
+    (entries_of i log) = λ i. cut_starts p (me i) (IsStartFrom p (me i)) (λ _ a. record_left a) (runs_may_be_cut p (me i))
     (runs i) empty_record
     _ (entries_of i more) (h.started i) (sym (filter-append (λ (e : Entry). e.node == i) log more) ∙ h.entries i) in (
       λ i. (one i).0,

@@ -24,7 +24,7 @@ use Rattle.group_node.specs.Deeds.{Campaign, Crash, Deed, Hear, Idle, Press, Rel
 use Rattle.group_world.specs.declared.event.Done.TheVariants.{Applied, Fell}
 use Rattle.group_world.specs.Deeds.{DoesDeed, EndsCall, Left}
 use Rattle.group_world.specs.Processes.{Entry, IsHistory, left_by, quiet_entry}
-use Rattle.group_process.specs.Runs.{AreStarts, NodeStart, FailsToStart, GoesOn, IsStartOver, IsOver, NodeRun, Stand, StandsWith, Starts, run_end, ends_by, entries_of_start, entry_by, failed_as, kept_after, node_after, node_by, node_left, record_by, record_left}
+use Rattle.group_process.specs.Runs.{AreStarts, NodeStart, FailsToStart, GoesOn, IsStartFrom, IsOver, NodeRun, Stand, StandsWith, Starts, run_end, ends_by, entries_of_start, entry_by, failed_as, kept_after, node_after, node_by, node_left, record_by, record_left}
 use Rattle.group_wire.specs.Process.{record_of, started}
 
 -- the node is up, with the record that it knows; its console was so before its run, or is no longer
@@ -167,7 +167,7 @@ module _ (p : Parts) (me : Me) where
       ⊎ ((run : NodeRun) × Contains runs (Starts run) × (length after.console ≤ run.last.progress.released)))
 
   -- a run, or a start whose save fails
-  start_is_history : (m : Member) (a : NodeStart) (rest : List NodeStart) → m.node ≡ None → IsStartOver p me m.kept a rest
+  start_is_history : (m : Member) (a : NodeStart) (rest : List NodeStart) → m.node ≡ None → IsStartFrom p me m.kept a rest
       → Shown m (a ∷ rest) (entries_of_start me a) (record_left a) (node_left a)
   start_is_history m (Starts run) rest down (read, h, last) =
       let (new, starts, at) = start_is_entry m run.process.loaded h.spare down read in
@@ -187,7 +187,7 @@ module _ (p : Parts) (me : Me) where
       (fallen, (fallen, (Fell, (down, read, ends)), refl), record { record_is = refl; node_is = refl }, inl refl)
 
   -- a run that goes on is the last, so the node is down before each other one
-  down_before : (kept : Record) (a b : NodeStart) (runs : List NodeStart) → IsStartOver p me kept a (b ∷ runs) → node_left a ≡ None
+  down_before : (kept : Record) (a b : NodeStart) (runs : List NodeStart) → IsStartFrom p me kept a (b ∷ runs) → node_left a ≡ None
   down_before kept a b runs start = grind arith
 
   pub runs_history : (runs : List NodeStart) (m : Member) → m.node ≡ None → AreStarts p me m.kept runs

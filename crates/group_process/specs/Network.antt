@@ -96,7 +96,8 @@ abbrev pub AreProcesses : Parts → Me → List NodeStart → Type 0
 AreProcesses p me starts =
     AllByRecursion (λ run. IsProcess p me run.process run.last) (runs_in starts)
 
--- The same log for starts over any stores: nothing is said of what their loads give.
+-- The same log for starts whose runs need only be processes of the node (`AreProcesses`).
+-- Allows: a load that gives any record; a start while an earlier run goes on.
 pub record IsDeliveredLog (p : Parts) (group : Group) (starts : ℕ → List NodeStart)
     (log : List GivenEntry) : Type 0 where
   pub among : AllByRecursion (λ e. IsNode group.size e.entry.node) log

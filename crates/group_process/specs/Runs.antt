@@ -121,10 +121,10 @@ IsLastIfOn (IsOver is_changed) rest = Unit {0}
 -- `kept`. A run is one of the node's process, and the last start if it goes on. If the save of a
 -- start fails, the starts were not spent.
 -- Forbids: a load that gives an older record; a start while a run goes on.
-abbrev pub IsStartOver : Parts → Me → Record → NodeStart → List NodeStart → Type 0
-IsStartOver p me kept (Starts run) rest =
+abbrev pub IsStartFrom : Parts → Me → Record → NodeStart → List NodeStart → Type 0
+IsStartFrom p me kept (Starts run) rest =
     (run.process.loaded ≡ kept) × IsProcess p me run.process run.last × IsLastIfOn run.stand rest
-IsStartOver p me kept (FailsToStart loaded is_changed) rest =
+IsStartFrom p me kept (FailsToStart loaded is_changed) rest =
     (loaded ≡ kept) × (loaded.starts ≢ LAST_START)
 
 -- The starts of a node, one after the other. `so` holds of what is known of its store, a start, and
@@ -138,7 +138,7 @@ AreInTurn so next known (a ∷ rest) = so known a rest × AreInTurn so next (nex
 -- what the start before it left, and the first one `kept`.
 -- Allows: a run that was killed at any deed.
 abbrev pub AreStarts : Parts → Me → Record → List NodeStart → Type 0
-AreStarts p me = AreInTurn (IsStartOver p me) (λ _ a. record_left a)
+AreStarts p me = AreInTurn (IsStartFrom p me) (λ _ a. record_left a)
 
 -- The record after these starts over a store that had the record `kept`.
 abbrev pub kept_after : Record → List NodeStart → Record
@@ -274,8 +274,8 @@ ConsolesShowRuns starts now =
     (i : ℕ) (m : Member) (run : NodeRun) → member_at now i ≡ Some m
     → Contains (starts i) (Starts run) → IsPrefix (run_output run) m.console
 
--- The console of each node is what one of its runs has released, or nothing. So it is the longest
--- of what they have released.
+-- The console of each node is what one of its runs has released, or nothing. With
+-- `ConsolesShowRuns` it is the longest of what they have released.
 -- Forbids: a byte on the console that no run has released.
 abbrev pub ConsolesAreReleased : (ℕ → List NodeStart) → List Member → Type 0
 ConsolesAreReleased starts now =

@@ -128,7 +128,8 @@ pub fn wrong_runs()
 {}
 
 /// What no runs write at a terminal, and the right runs beside it. A byte that is there is not
-/// written a second time, and none is left out before another one.
+/// written a second time, and none is left out before another one. A byte that the run has not
+/// released is not written.
 pub fn wrong_terminals()
     ensures right { (byte : ℕ) → WriteInTurn [] (byte_then byte 1 []) }
     ensures shown { (byte : ℕ) → terminal_after [] (byte_then byte 1 []) ≡ byte ∷ [] }
@@ -149,7 +150,8 @@ pub fn wrong_terminals()
 /// each two moments.
 /// - The console of a node begins with what each of its runs has released, also when the run is
 /// over, and it is what one of them has released, or nothing: the longest of these.
-/// - A terminal shows a prefix of its node's console, and all of it if nothing was lost
+/// - A terminal shows a prefix of its node's console. It shows all that the last run has released
+/// once that run has written all that it had to. It shows the whole console if nothing was lost
 /// (`terminals_are_consoles`).
 pub fn runs_headline()
     ensures nodes { (p : Parts) (group : Group) (starts : ℕ → List NodeStart) (log : List Entry)

@@ -105,7 +105,8 @@ pub record AnswersWhatCame {S : Type 0} (kind : StoreKind S) (answer : Answered)
   pub again : to.retries ≡ retries_after answer from.retries
 
 -- What happens at a keyboard before a turn: typing of what it gave, or a campaign that it asked
--- for, as the answer says.
+-- for, as the answer says. At `Ok` this says less than `AnswersWhatCame`.
+-- Allows: at `Ok`, a request that is passed over; a byte that is left though there is room.
 abbrev pub HasAnsweredKeyboard : {S : Type 0} → StoreKind S → NodeState S → NodeState S
     → Surroundings → Surroundings → Result Answered GroupFault → Type 0
 HasAnsweredKeyboard kind old new from to (Ok Bytes) =

@@ -21,8 +21,8 @@ turns_in prompts = length (filter is_run prompts)
 -- again before, and `left` how often it may now: its campaigns and `left` together are at most four
 -- for each request, and `had`.
 -- Allows: a campaign that was asked for, and could not begin, or that a leader has ignored.
--- Forbids: a byte that is typed twice; a campaign that nobody asked for; more than four campaigns
--- for each request, all together.
+-- Forbids: a byte that is typed twice; if `had` is 0, a campaign that nobody asked for, or more
+-- than four campaigns for each request, all together.
 pub record IsPrompted (gift : List Deed) (turns had left : ℕ) (spent : Type 0)
     (prompts : List Deed) : Type 0 where
   pub lost : List ℕ

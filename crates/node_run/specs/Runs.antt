@@ -49,8 +49,9 @@ IsEarlyEnd plan e = IsWrittenCycleRefusal e ⊎ ((plan.campaigns ≡ true) × Is
 
 -- A run of a node that has started, as a process of its group over one load of its store, which is
 -- `end` after it. All that passes over its wire is what passes in its deeds. It campaigns first if
--- its plan says so. Then it is prompted by its keyboard. At `Ok` it has taken all turns of the
--- plan, at `Err` at most those. After all turns no output waits. It ends at its first failed save.
+-- its plan says so, or takes no turn because that campaign could not begin. Its other prompts are
+-- as `IsPrompted` says. At `Ok` it has taken all turns of the plan, at `Err` at most those. After
+-- all turns no output waits. It ends at its first failed save.
 -- Allows: turns at which nothing is heard.
 -- Forbids: output that waits at `Ok`.
 pub record RunsNode {S : Type 0} (kind : StoreKind S) (me : Me) (program : Parts) (store end : S)
@@ -78,8 +79,8 @@ pub record RunsNode {S : Type 0} (kind : StoreKind S) (me : Me) (program : Parts
 -- A run of a node as its cycles: from the node that one load of the store gave to the one that
 -- leaves the store `end`. It says what the node did in which order: it heard, answered its
 -- keyboard, ticked, ran its machine and released its output in each cycle. In the end its machine
--- is where a replay is; and unless a save has failed, a restart may load the node's record of an
--- honest store, and no other. That it is a process then is a law (`cycles_are_a_run`).
+-- is where a replay is. If the store is honest and no save has failed, a restart may load from
+-- `end` only the node's record. That it is a process then is a law (`cycles_are_a_run`).
 -- Forbids: a cycle without its turn, its release, or its look at the keyboard.
 pub record RunsInCycles {S : Type 0} (kind : StoreKind S) (me : Me) (program : Parts)
     (store end : S) (plan : RunPlan) (from to : Surroundings) (before after : Option (List ℕ))

@@ -5,7 +5,7 @@
 pub struct Endpoints<T, K> {
     pub wire: T,
     pub keyboard: K,
-    /// How often the node may still campaign again for the last request to campaign, 0 to 3. It is
-    /// 0 before the first one.
+    /// How often the node may still campaign again for the last request to campaign. No clause
+    /// bounds what a caller passes. An answered request sets it to 3 or 0; nothing else raises it.
     pub retries: u8,
 }

@@ -48,8 +48,8 @@ pub fn consoles_go_on()
     prefixes_are_ordered();
 }
 
-/// A run that is known as its cycles is the run of a process: of the deeds that its cycles are,
-/// over the record that one load of its store gave, with the output that its releases have written.
+/// A run that is known as its cycles (`RunsInCycles`) is also one of a process (`RunsNode`), with
+/// the same stores, plan, surroundings, output and result. Both end with the same node.
 pub fn cycles_are_a_run<S: Store>()
     ensures { (me : Me) (program : Parts) (store end : S) (plan : RunPlan) (from to : Surroundings)
         (before after : Option (List ℕ)) (result : Result (Unit {0}) GroupFault)

@@ -47,8 +47,8 @@ fn release_unseen<T: Wire, S: Store>(
 /// order.
 ///
 /// If a write fails, all output is released too. None or some first ones of those bytes are
-/// written, and the others are lost. No clause says that each byte is traced, or that one call
-/// writes all.
+/// written, and the others are lost. No clause says that each byte is traced, or how many
+/// calls of the writer there are.
 pub fn release_all<T: Wire, S: Store, W: ByteWriter>(
     host: &mut Host<'_, S>,
     seen: u64,
