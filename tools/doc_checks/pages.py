@@ -160,7 +160,7 @@ SHARED_LEMMAS = re.compile(
 LEMMAS_FOR = {
     "group_world": re.compile(r"group_rules\.proofs\.(SmallPrograms|WrittenVotes)\."),
     "group_disk": re.compile(
-        r"group_process\.proofs\.RunFronts\.|group_rules\.proofs\.SmallPrograms\."
+        r"group_process\.proofs\.RunPrefixes\.|group_rules\.proofs\.SmallPrograms\."
     ),
     "group_progress": re.compile(
         r"group_world\.proofs\.WorldAsGroup\."

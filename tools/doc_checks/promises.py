@@ -2,7 +2,7 @@
 comments in the sources. reference.py makes the pages of docs/reference of them."""
 import re
 
-from . import reference, tree, turns
+from . import bent, definitions, reference, tree, turns
 from .tree import fault, text_of
 
 PATH = "docs/promises.txt"
@@ -99,6 +99,18 @@ def place(named, rows, column):
             wanted -= row.keys
 
 
+def add_bent(rows):
+    """Adds to each promise of the main theorem the edits that bend the claim that its text names,
+    in parentheses."""
+    edits = {}
+    for crate in tree.crates():
+        for name, found in bent.benders(crate, list(definitions.definitions_of(crate))).items():
+            edits.setdefault(name, set()).update(found)
+    for row in rows:
+        for name in re.findall(r"\(`(\w+)`\)", row.text) if row.crate == MAIN else ():
+            row.edits.extend(edits.get(name, ()))
+
+
 def check_turned(functions, named, spared):
     """Refuses a clause of a public call that no edit, test or law names, and that is not listed as
     not turned."""
@@ -191,6 +203,7 @@ def check(functions, is_write):
         place(it, rows + calls + laws, "edits")
     for it in tests:
         place(it, rows + calls + laws, "tests")
+    add_bent(rows)
     check_turned(functions, edits + tests, spared)
     of = lambda section: [it for it in all_entries if it.section == section]
     parts = reference.Parts(rows, calls, laws, of(BY_TESTS), of(NOT_TURNED))

@@ -14,7 +14,9 @@ MAIN, BY_TESTS = "main_theorem", "by_tests"
 HEAD = {
     MAIN: """# The main theorem, clause by clause
 
-[THEOREM](../THEOREM.md#the-sentence) has the theorem, in words and word for word.
+[THEOREM](../THEOREM.md#the-sentence) has the theorem, in words and word for word. That its claims
+hold of processes over disks is `disks_headline` ([group_disk](group_disk.md)); `tests/kill` and
+`tests/power` try records and consoles on real files.
 """,
     BY_TESTS: """# By tests alone
 

@@ -16,7 +16,7 @@ TOP = os.path.join(os.path.dirname(os.path.realpath(__file__)), "..", "..")
 TOOLS = os.path.join(TOP, "tools")
 GROUP = os.path.join(TOOLS, "group")
 # The commands of the program that have a page, beside the one of all.
-COMMANDS = ("check", "list", "run", "state", "show", "sim", "net", "node")
+COMMANDS = ("check", "list", "run", "state", "frozen", "show", "sim", "net", "node")
 SCRIPTS = ("attach", "demo", "draw", "lead", "page", "renew", "replay", "status", "supervise")
 # Pages that belong together name each other.
 FAMILIES = (

@@ -139,8 +139,8 @@ module _ {D : Type 0} (honest : Type 0) (folder_of : D → Folder) (p : Parts) (
   write_more full shown left j kept c (Some run) runs front (h, is_changed, is) before told after rest =
       let w : IsWrittenAt shown kept h.last c.after c.result =
       run_at_its_terminal kind p me c.store c.end c.plan c.from c.to shown kept c.before c.after c.result h before told in
-      let run_at : TerminalRun = record { released = w.run.released; kept = min kept j; seen = w.run.seen; wrote = w.run.wrote } in
-      let begins : take w.run.kept shown ≡ take (min kept j) full =
+      let run_at : TerminalRun = record { released = w.run.released; survived = min kept j; seen = w.run.seen; wrote = w.run.wrote } in
+      let begins : take w.run.survived shown ≡ take (min kept j) full =
       ap (λ k. take k shown) w.begun ∙ ap (λ l. take kept l) front ∙ take_twice kept j full in
       let is_there : left ≡ shown_after full run_at =
       same_bytes c.after left (shown_after shown w.run) after w.is_there ∙ ap (λ l. l ++ w.run.wrote) begins in

@@ -23,7 +23,7 @@ use Rattle.group_world.specs.declared.event.Outcome.TheVariants.{Kept}
 use Rattle.group_world.specs.Group.{member_at, seat_of_member, up_of}
 use Rattle.group_world.specs.Member.{Member}
 use Rattle.group_world.specs.Processes.{Entry, entries_of, quiet_entry}
-use Rattle.group_process.proofs.RunFronts.{still_start}
+use Rattle.group_process.proofs.RunPrefixes.{still_start}
 use Rattle.group_process.specs.Runs.{AlwaysLaterOfRuns, AreFirstRuns, AreStarts, NodeStart, FailsToStart, IsAfterRuns, IsStartFrom, IsCutOff, IsCutStart, IsGroupLog, IsLastIfOn, LeaveNodes, NodeRun, Stand, Starts, ends_by, entries_of_start, entry_by, record_left, state_after}
 use Rattle.group_disk.specs.Restarts.{AreChosenRuns, AreRestarts, IsChosenLog, IsDiskLog, IsRestart, IsSameStand, found_after}
 use Rattle.group_disk.specs.Headline.{AlwaysLaterOfDisks, AreMomentsOfDisks, AreSeenAlike, IsAfterDisks}

@@ -4,7 +4,7 @@ mod KeptLogs
 mod DiskClaims
 mod TakenBack
 mod SeenSame
-mod DiskFronts
+mod DiskPrefixes
 mod DiskMoments
 mod DiskRuns
 mod RunsWrite

@@ -27,7 +27,7 @@ pub run_writes : {S : Type 0} (kind : StoreKind S) (p : Parts) (me : Me) (store 
     (h : RunsNode kind me p store end plan from to (Some (take kept shown)) after result) → plan.seen ≡ length (take kept shown)
     → IsWrittenAt shown kept h.last after result
 run_writes kind p me store end plan from to shown kept after result h told =
-    let run : TerminalRun = record { released = output_of h.last; kept = kept; seen = plan.seen; wrote = h.writes.wrote } in
+    let run : TerminalRun = record { released = output_of h.last; survived = kept; seen = plan.seen; wrote = h.writes.wrote } in
     record {
       run = run;
       released = refl;

@@ -107,7 +107,7 @@ AreCallsAt shown (c ∷ calls) now =
     × (c.plan.seen ≡ length (take kept shown)) × (c.after ≡ Some left)
     × AreCallsAt left calls now
 
--- The claim that these runs wrote in turn at a terminal that had `shown`, and that it has the front
+-- The claim that these runs wrote in turn at a terminal that had `shown`, and that it has a prefix
 -- of what they make of it: all of it, unless its end was lost.
 abbrev pub WriteAt : List ℕ → List NodeRun → List ℕ → Type 0
 WriteAt shown runs now =

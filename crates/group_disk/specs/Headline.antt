@@ -66,14 +66,14 @@ pub record AreMomentsOfDisks (p : Parts) (group : Group) (cut restarts : ℕ →
   pub all : IsDiskLog p group restarts (log ++ more)
   pub first : (i : ℕ) → AreFirstRuns (cut i) (restarts i)
 
--- The claim that a log over disks has such a moment after its front, and nodes at it.
+-- The claim that a log over disks has such a moment after a prefix, and nodes at it.
 abbrev pub HaveMomentOfDisks : Parts → Group → (ℕ → List NodeStart) → List Entry → List Entry
     → Type 0
 HaveMomentOfDisks p group restarts log more =
     (cut : ℕ → List NodeStart) × AreMomentsOfDisks p group cut restarts log more
     × DisksLeaveNodes p group cut log
 
--- What holds of every two moments of a log: `mid` are the nodes after its front, and `now` those
+-- What holds of every two moments of a log: `mid` are the nodes after a prefix, and `now` those
 -- after all of it, by whichever choice for each of the two.
 -- Allows: a record that `mid` has of a node that is down, and that no later start finds.
 abbrev pub AlwaysLaterOfDisks : (WorldState → WorldState → Type 0) → Type 0

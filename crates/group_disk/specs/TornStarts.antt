@@ -94,7 +94,7 @@ renamed_folder = record {
   fresh = None;
 }
 
--- A promise was appended, and its sync has failed: a crash may leave any front of it.
+-- A promise was appended, and its sync has failed: a crash may leave any prefix of it.
 abbrev pub appended_folder : Folder
 appended_folder = record {
   file = Some (record {

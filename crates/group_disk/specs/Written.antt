@@ -12,7 +12,7 @@ pub record IsWrittenAt (shown : List ℕ) (kept : ℕ) (last : Running) (after :
     (result : Result (Unit {0}) GroupFault) : Type 0 where
   pub run : TerminalRun
   pub released : run.released ≡ output_of last
-  pub begun : run.kept ≡ kept
+  pub begun : run.survived ≡ kept
   pub writes : WritesAt shown run
   pub is_there : after ≡ Some (shown_after shown run)
   pub whole : OnOk result (WritesWhole run)

@@ -90,8 +90,8 @@ pub fn networks_carry_over_disks()
     networks_carry();
 }
 
-/// Each front of a log over disks is one too.
-pub fn fronts_of_disks()
+/// Each prefix of a log over disks is one too.
+pub fn prefixes_of_disks()
     ensures { (p : Parts) (group : Group) (restarts : ℕ → List NodeStart) (log more : List Entry)
         → IsDiskLog p group restarts (log ++ more) → HasFirstStarts p group restarts log }
 {}
@@ -100,7 +100,7 @@ pub fn fronts_of_disks()
 pub fn disks_headline()
     ensures nodes { (p : Parts) (group : Group) (restarts : ℕ → List NodeStart) (log : List Entry)
         → IsDiskLog p group restarts log → DisksLeaveNodes p group restarts log }
-    ensures fronts { (p : Parts) (group : Group) (restarts : ℕ → List NodeStart)
+    ensures prefixes { (p : Parts) (group : Group) (restarts : ℕ → List NodeStart)
         (log more : List Entry) → IsDiskLog p group restarts (log ++ more)
         → HasFirstStarts p group restarts log }
     ensures moments { (p : Parts) (group : Group) (restarts : ℕ → List NodeStart)
@@ -130,7 +130,7 @@ pub fn disks_headline()
     ensures consoles_grow { AlwaysLaterOfDisks ConsolesGrow }
 {
     disk_logs_are_kept();
-    fronts_of_disks();
+    prefixes_of_disks();
     runs_headline();
     terminals_are_consoles();
     prefixes_are_ordered();

@@ -182,7 +182,8 @@ impl<'a, S: Store> Node<'a, S> {
     /// The ballot's round is one above `last_round`, the greatest round of a ballot that the node
     /// has promised or that a Refused reported to it in this start. The node promises the ballot,
     /// and asks all nodes for their promises from the known front on. A proposer that it had is
-    /// dropped.
+    /// dropped, with what was offered to it. After an error nothing has changed, but after `Store`
+    /// the node is stopped.
     pub fn campaign(&mut self, outbox: &mut Outbox) -> Result<(), NodeFault>
         ensures responds { Responds S.kind on_campaign self outbox result }
         ensures refuses { IsAdmitted self.old.protocol outbox.old.packets

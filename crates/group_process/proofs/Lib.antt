@@ -1,7 +1,7 @@
 mod GivenWasSent
 mod RunHistories
 mod GroupLogs
-pub mod RunFronts
+pub mod RunPrefixes
 mod RunsShow
 mod TerminalsShow
 mod RunsMayHear

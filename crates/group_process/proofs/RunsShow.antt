@@ -20,7 +20,7 @@ use Rattle.group_rules.specs.Claims.{ConsolesShowReleased}
 use Rattle.group_world.specs.Processes.{AlwaysLaterOfProcesses, AlwaysOfProcesses, Entry, HasMoment, IsHistory, IsLog, entries_of}
 use Rattle.group_process.specs.Runs.{AreFirstRuns, AreStarts, NodeStart, ConsolesAreReleased, ConsolesShowRuns, GoesOn, IsAfterRuns, NodeRun, Starts, ends_by, entries_of_start, node_after, node_left, record_left, run_output}
 use Rattle.group_process.proofs.GroupLogs.{first, first_at}
-use Rattle.group_process.proofs.RunFronts.{still_start}
+use Rattle.group_process.proofs.RunPrefixes.{still_start}
 use Rattle.group_process.proofs.RunHistories.{runs_history}
 use Rattle.group_protocol.proofs.Elements.{in_cases, none_in}
 
@@ -65,19 +65,19 @@ reaches p me (a ∷ runs) kept run (start, others) there = elim (in_cases a runs
 
 -- ---- a log
 
--- a list ends its front where those of it that pass a test end theirs
+-- a list ends its prefix where those of it that pass a test end theirs
 split_passed : {X : Type 0} (test : X → Bool) (xs es fs : List X) → es ++ fs ≡ filter test xs
-    → (front : List X) × (rest : List X) × (xs ≡ front ++ rest) × (filter test front ≡ es)
+    → (prefix : List X) × (rest : List X) × (xs ≡ prefix ++ rest) × (filter test prefix ≡ es)
 split_passed test xs [] fs e = ([], xs, refl, refl)
 split_passed test [] (x ∷ es) fs e = absurd cc
 split_passed test (y ∷ xs) (x ∷ es) fs e = elim (cases_Bool (test y)) [
   | inl passes ↦
       let both : x ∷ (es ++ fs) ≡ y ∷ filter test xs = rw passes at e in
-      let (front, rest, whole, passed) = split_passed test xs es fs cc in
-      (y ∷ front, rest, cc, rw (passes, passed) cc)
+      let (prefix, rest, whole, passed) = split_passed test xs es fs cc in
+      (y ∷ prefix, rest, cc, rw (passes, passed) cc)
   | inr fails ↦
-      let (front, rest, whole, passed) = split_passed test xs (x ∷ es) fs (rw fails at e) in
-      (y ∷ front, rest, cc, rw (fails, passed) refl)
+      let (prefix, rest, whole, passed) = split_passed test xs (x ∷ es) fs (rw fails at e) in
+      (y ∷ prefix, rest, cc, rw (fails, passed) refl)
 ]
 
 -- a list that is as long has a node there too
@@ -120,15 +120,15 @@ module _ (laws : LogLaws) (p : Parts) (group : Group) (runs : ℕ → List NodeS
       let me : Me = record { node = i; group = group } in
       let r = reaches p me (runs i) empty_record run (h.ran.started i) there in
       let (own, history, stands, shows) = runs_history p me r.cut first refl r.are in
-      let (front, rest, whole, entries) = split_passed (λ (e : Entry). e.node == i) log _ r.rest (r.whole ∙ sym (h.ran.entries i)) in
-      let (mid, moment) = laws.parts (new_world p group) front rest now (rw whole at h.nodes) in
+      let (prefix, rest, whole, entries) = split_passed (λ (e : Entry). e.node == i) log _ r.rest (r.whole ∙ sym (h.ran.entries i)) in
+      let (mid, moment) = laws.parts (new_world p group) prefix rest now (rw whole at h.nodes) in
       let (m_mid, mid_is) = node_there mid now i m moment.after.places at in
       let same : m_mid ≡ own = laws.node p me first _ own m_mid history
-      (rw entries at (own_history p group front mid i m_mid moment.before mid_is)) in
+      (rw entries at (own_history p group prefix mid i m_mid moment.before mid_is)) in
       let up : m_mid.node ≡ Some (run.last) = ap (λ (x : Member). x.node) same ∙ stands.node_is ∙ r.up None in
       let seat = ap (λ o. (seat_of_member o).up) mid_is ∙ ap (option_map up_of) up in
-      let shown = laws.shows p group front mid size session moment.before i (up_of (run.last)) seat in
-      let grown = laws.grow p group front rest mid now size session moment.before moment.after i in
+      let shown = laws.shows p group prefix mid size session moment.before i (up_of (run.last)) seat in
+      let grown = laws.grow p group prefix rest mid now size session moment.before moment.after i in
       let console : List ℕ = (seat_of_member (member_at mid i)).console in
       let count : ℕ = run.last.progress.released in
       let begins : IsPrefix (run_output run) console =

@@ -1,4 +1,4 @@
--- A terminal that is put together of what its runs wrote shows the front of the console.
+-- A terminal that is put together of what its runs wrote shows the prefix of the console.
 use Rattle.std.proofs.lemmas.Bool.{cases_lt}
 use Rattle.std.proofs.lemmas.List.{append-nil, drop-append-le, drop_all, length-append, length-drop, nil_from_length, take-append-drop, take-append-le, take_all}
 use Rattle.std.proofs.Math.Seq.{drop-append-add, drop-append_seam, take-append_seam}
@@ -13,23 +13,23 @@ use Rattle.group_process.specs.Runs.{NodeStart, ConsolesAreReleased, ConsolesSho
 use Rattle.group_process.specs.Terminals.{AreAtTerminal, LoseNothing, TerminalRun, TerminalsAreConsoles, TerminalsShowConsoles, TerminalsShowLastRuns, WritesAt, WritesWhole, WriteInTurn, shown_after, shown_before, terminal_after}
 use Rattle.group_process.proofs.RunsShow.{no_more}
 
--- of two fronts of a list the longer one begins with the other
+-- of two prefixes of a list the longer one begins with the other
 begins : (a b c : List ℕ) → IsPrefix a c → IsPrefix b c → length a ≤ length b → b ≡ a ++ drop (length a) b
 begins a b c h g few =
-    let front : take (length a) b ≡ a =
+    let prefix : take (length a) b ≡ a =
     sym (take-append-le (length a) b g.rest few) ∙ ap (take (length a)) (sym g.whole ∙ h.whole) ∙ take-append_seam a h.rest in
-    sym (take-append-drop (length a) b) ∙ ap (λ l. l ++ drop (length a) b) front
+    sym (take-append-drop (length a) b) ∙ ap (λ l. l ++ drop (length a) b) prefix
 
--- two fronts of a list: one begins with the other, or has nothing behind its bytes
-two_fronts : (a b c : List ℕ) → IsPrefix a c → IsPrefix b c → (b ≡ a ++ drop (length a) b) ⊎ (drop (length a) b ≡ [])
-two_fronts a b c h g = elim (cases_lt (length b) (length a)) [
+-- two prefixes of a list: one begins with the other, or has nothing behind its bytes
+two_prefixes : (a b c : List ℕ) → IsPrefix a c → IsPrefix b c → (b ≡ a ++ drop (length a) b) ⊎ (drop (length a) b ≡ [])
+two_prefixes a b c h g = elim (cases_lt (length b) (length a)) [
   | inl less ↦ inr (drop_all (length a) b (omega (arith, less)))
   | inr more ↦ inl (begins a b c h g more)
 ]
 
--- what is behind the bytes of a front, added to it, is a front
+-- what is behind the bytes of a prefix, added to it, is a prefix
 more_of : (a b c wrote : List ℕ) → IsPrefix a c → IsPrefix b c → IsPrefix wrote (drop (length a) b) → IsPrefix (a ++ wrote) c
-more_of a b c wrote h g w = elim (two_fronts a b c h g) [
+more_of a b c wrote h g w = elim (two_prefixes a b c h g) [
   | inl longer ↦ record {
     rest = w.rest ++ g.rest;
     whole = g.whole ∙ ap (λ l. l ++ g.rest) (longer ∙ ap (λ l. a ++ l) w.whole) ∙ grind (arith, append_assoc);
@@ -39,18 +39,18 @@ more_of a b c wrote h g w = elim (two_fronts a b c h g) [
       record { rest = h.rest; whole = h.whole ∙ ap (λ l. l ++ h.rest) (sym (ap (λ l. a ++ l) empty ∙ append-nil a)) }
 ]
 
--- the first bytes of a front are one
+-- the first bytes of a prefix are one
 first_of : (k : ℕ) (a c : List ℕ) → IsPrefix a c → IsPrefix (take k a) c
 first_of k a c h = record {
   rest = drop k a ++ h.rest;
   whole = h.whole ∙ ap (λ l. l ++ h.rest) (sym (take-append-drop k a)) ∙ append_assoc (take k a) (drop k a) h.rest;
 }
 
--- what a terminal shows stays the front of the console
+-- what a terminal shows stays the prefix of the console
 shows_after : (console shown : List ℕ) (run : TerminalRun) → IsPrefix run.released console → IsPrefix shown console → WritesAt shown run
     → IsPrefix (shown_after shown run) console
 shows_after console shown run released before h =
-    more_of (shown_before shown run) run.released console run.wrote (first_of run.kept shown console before) released
+    more_of (shown_before shown run) run.released console run.wrote (first_of run.survived shown console before) released
     (subst (λ n. IsPrefix run.wrote (drop n run.released)) h.told h.wrote)
 
 pub shows : (console shown : List ℕ) (runs : List TerminalRun)
@@ -68,13 +68,13 @@ whole_after console shown run released before h all =
     let rest : run.wrote ≡ drop (length b) run.released = all ∙ ap (λ n. drop n run.released) h.told in
     elim (cases_lt (length run.released) (length b)) [
       | inl less ↦
-          let longer = begins run.released b console released (first_of run.kept shown console before) (omega (arith, less)) in
+          let longer = begins run.released b console released (first_of run.survived shown console before) (omega (arith, less)) in
           record {
             rest = drop (length run.released) b ++ run.wrote;
             whole = ap (λ l. l ++ run.wrote) longer ∙ append_assoc run.released _ run.wrote;
           }
       | inr more ↦
-          let longer = begins b run.released console (first_of run.kept shown console before) released more in
+          let longer = begins b run.released console (first_of run.survived shown console before) released more in
           record { rest = []; whole = ap (λ l. b ++ l) rest ∙ sym longer ∙ sym (append-nil run.released) }
     ]
 
@@ -86,10 +86,10 @@ shows_last console shown (r ∷ runs) run (one, released) before (first, h) all 
     shows_last console (shown_after shown r) runs run released (shows_after console shown r one before first) h all
 
 -- a terminal that is kept whole has as many bytes as it had, and as a run has released
-grows : (shown : List ℕ) (run : TerminalRun) → WritesAt shown run → length shown ≤ run.kept → WritesWhole run
+grows : (shown : List ℕ) (run : TerminalRun) → WritesAt shown run → length shown ≤ run.survived → WritesWhole run
     → (length shown ≤ length (shown_after shown run)) × (length run.released ≤ length (shown_after shown run))
 grows shown run h kept all =
-    let whole : shown_before shown run ≡ shown = take_all run.kept shown kept in
+    let whole : shown_before shown run ≡ shown = take_all run.survived shown kept in
     let told : run.seen ≡ length shown = h.told ∙ ap length whole in
     let count : length (shown_after shown run) ≡ length shown + (length run.released - length shown) =
     length-append (shown_before shown run) run.wrote ∙ ap (λ l. length l + length run.wrote) whole
@@ -161,14 +161,14 @@ module _ (starts : ℕ → List NodeStart) (now : List Member) (shows_runs : Con
 
   pub terminals_are : ConsolesAreReleased starts now → TerminalsAreConsoles starts now
   terminals_are only i m runs at h kept =
-      let front = terminals_show i m runs at h in
+      let prefix = terminals_show i m runs at h in
       let (more, each) = long_enough [] runs h.writes kept in
       elim (only i m at) [
-        | inl none ↦ sym (no_more (terminal_after [] runs) m.console front (omega (arith, ap length none)))
+        | inl none ↦ sym (no_more (terminal_after [] runs) m.console prefix (omega (arith, ap length none)))
         | inr (run, there, is) ↦
             let count = each (run_output run)
             (subst (λ (l : List (List ℕ)). Contains l (run_output run)) (sym h.released) (is_released (starts i) run there)) in
-            sym (no_more (terminal_after [] runs) m.console front (omega (arith, count, ap length is)))
+            sym (no_more (terminal_after [] runs) m.console prefix (omega (arith, count, ap length is)))
       ]
 
 -- ---- a number that is not that of the bytes on the terminal

@@ -229,7 +229,7 @@ state_after p group log now = world_state (after_log (new_world p group) log now
 
 -- What holds of the nodes of every program and group, whatever their processes do.
 -- It is said of every `now`: a log of runs leaves nodes, and only one list of them, so all claims
--- are of the same nodes. Each front of a log of runs is one too, so they hold at each moment.
+-- are of the same nodes. Each prefix of a log of runs is one too, so they hold at each moment.
 abbrev pub AlwaysOfRuns : (WorldState → Type 0) → Type 0
 AlwaysOfRuns P =
     (p : Parts) (group : Group) (starts : ℕ → List NodeStart) (log : List Entry) (now : List Member)
@@ -242,7 +242,7 @@ AlwaysOfNodes Q =
     (p : Parts) (group : Group) (starts : ℕ → List NodeStart) (log : List Entry) (now : List Member)
     → IsSize group.size → IsGroup group → IsAfterRuns p group starts log now → Q starts now
 
--- What holds of every two moments of a log: `mid` are the nodes after its front, whose runs are
+-- What holds of every two moments of a log: `mid` are the nodes after a prefix, whose runs are
 -- `cut`, and `now` those after all of it.
 abbrev pub AlwaysLaterOfRuns : (WorldState → WorldState → Type 0) → Type 0
 AlwaysLaterOfRuns P =

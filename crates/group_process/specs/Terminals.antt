@@ -6,18 +6,18 @@ use Rattle.group_world.specs.Member.{Member}
 use Rattle.group_process.specs.Runs.{NodeStart, run_output, runs_in}
 
 -- A run of a node at its terminal: what it had released by its end; how many bytes of the terminal
--- were kept before it; the number of the first byte that it was to write, its `--seen`; and what it
--- wrote.
+-- survived until it began; the number of the first byte that it was to write, its `--seen`; and
+-- what it wrote.
 pub record TerminalRun : Type 0 where
   pub released : List ℕ
-  pub kept : ℕ
+  pub survived : ℕ
   pub seen : ℕ
   pub wrote : List ℕ
 
 -- What a terminal has as a run begins: all that it had, or only the first bytes of it, as after a
 -- cut of the power.
 abbrev pub shown_before : List ℕ → TerminalRun → List ℕ
-shown_before shown run = take run.kept shown
+shown_before shown run = take run.survived shown
 
 -- What it has after the run.
 abbrev pub shown_after : List ℕ → TerminalRun → List ℕ
@@ -49,7 +49,7 @@ WritesWhole run = run.wrote ≡ drop run.seen run.released
 abbrev pub LoseNothing : List ℕ → List TerminalRun → Type 0
 LoseNothing shown [] = Unit {0}
 LoseNothing shown (run ∷ runs) =
-    (length shown ≤ run.kept) × WritesWhole run × LoseNothing (shown_after shown run) runs
+    (length shown ≤ run.survived) × WritesWhole run × LoseNothing (shown_after shown run) runs
 
 -- The runs of these starts at the terminal of their node, which had nothing at first.
 -- Forbids: a run that is left out; what no run has released.
@@ -57,7 +57,7 @@ pub record AreAtTerminal (starts : List NodeStart) (runs : List TerminalRun) : T
   pub released : map (λ run. run.released) runs ≡ map run_output (runs_in starts)
   pub writes : WriteInTurn [] runs
 
--- The terminal of each node shows the front of its console.
+-- The terminal of each node shows a prefix of its console.
 -- Allows: bytes at the end of the console that are not on the terminal yet.
 -- Forbids: a byte that is there twice, or left out before another one.
 abbrev pub TerminalsShowConsoles : (ℕ → List NodeStart) → List Member → Type 0

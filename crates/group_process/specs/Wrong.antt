@@ -35,7 +35,7 @@ beside_a_run p me = then_over p me GoesOn (left_first p me)
 -- which `kept` bytes were there.
 abbrev pub writes_from : List ℕ → ℕ → ℕ → List ℕ → TerminalRun
 writes_from released kept seen wrote =
-    record { released = released; kept = kept; seen = seen; wrote = wrote }
+    record { released = released; survived = kept; seen = seen; wrote = wrote }
 
 -- A run that wrote one byte, and a second one that released that byte too, was told this number,
 -- and wrote this.

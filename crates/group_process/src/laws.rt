@@ -20,7 +20,7 @@ ghost use Rattle.group_process.specs.Wrong.{beside_a_run, byte_then, left_first,
 ghost use Rattle.paxos_msg.specs.Records.{empty_record};
 ghost use Rattle.group_process.specs.Terminals.{TerminalsAreConsoles, TerminalsShowConsoles, TerminalsShowLastRuns, WriteInTurn, terminal_after};
 
-use group_world::laws::{fronts_of_logs, logs_have_one_end, processes_headline, processes_show};
+use group_world::laws::{logs_have_one_end, prefixes_of_logs, processes_headline, processes_show};
 use paxos_msg::grammar::{spelling_is_read, spelling_is_short};
 use pcode_machine::laws::prefixes_are_ordered;
 
@@ -59,7 +59,7 @@ pub fn logs_leave_nodes()
 
 /// Each prefix of a log of runs is a log of runs: of the first ones of each node, of which the last
 /// one may be cut off at a deed. So what holds at the end of every log holds at each moment of one.
-pub fn fronts_of_runs()
+pub fn prefixes_of_runs()
     ensures { (p : Parts) (group : Group) (starts : ℕ → List NodeStart) (log more : List Entry)
         → IsGroupLog p group starts (log ++ more) → HasRuns p group starts log }
 {}
@@ -89,8 +89,8 @@ pub fn runs_may_hear()
 
 /// What a terminal shows of its node's console, if the runs write at it in turn and each is told in
 /// `--seen` how many bytes are there (`AreAtTerminal`). Premise of all three: the console begins
-/// with what each run has released. The third needs one more: it is what one of them has released,
-/// or nothing.
+/// with what each run has released. The third needs one more: the console is what one of them has
+/// released, or nothing.
 ///
 /// - The terminal shows a prefix of the console, whatever was lost.
 /// - What the last run has released is there once that run has written all that it had to.
@@ -146,8 +146,8 @@ pub fn wrong_terminals()
 ///
 /// - Such a log leaves nodes: all nodes of the group, each as its runs left it. It leaves no others
 /// (`logs_leave_nodes`), and all claims are of these nodes.
-/// - Each front of a log is a log too. So the claims hold at each moment, and the last two between
-/// each two moments.
+/// - The claims are those of `group_rules::laws::headline`. Each prefix of a log is a log too. So
+/// they hold at each moment, and `learned_stays` and `consoles_grow` between each two moments.
 /// - The console of a node begins with what each of its runs has released, also when the run is
 /// over, and it is what one of them has released, or nothing: the longest of these.
 /// - A terminal shows a prefix of its node's console. It shows all that the last run has released
@@ -156,7 +156,7 @@ pub fn wrong_terminals()
 pub fn runs_headline()
     ensures nodes { (p : Parts) (group : Group) (starts : ℕ → List NodeStart) (log : List Entry)
         → IsGroupLog p group starts log → LeaveNodes p group starts log }
-    ensures fronts { (p : Parts) (group : Group) (starts : ℕ → List NodeStart)
+    ensures prefixes { (p : Parts) (group : Group) (starts : ℕ → List NodeStart)
         (log more : List Entry)
         → IsGroupLog p group starts (log ++ more) → HasRuns p group starts log }
     ensures learned_agree { AlwaysOfRuns LearnedAgree }
@@ -176,10 +176,10 @@ pub fn runs_headline()
     ensures consoles_grow { AlwaysLaterOfRuns ConsolesGrow }
 {
     logs_leave_nodes();
-    fronts_of_runs();
+    prefixes_of_runs();
     processes_headline();
     processes_show();
-    fronts_of_logs();
+    prefixes_of_logs();
     logs_have_one_end();
     terminals_are_consoles();
     prefixes_are_ordered();

@@ -21,10 +21,11 @@ use Rattle.paxos_learner.specs.Learner.{Learner, front_of}
 use Rattle.paxos_proposer.specs.Proposer.{Proposer, coverage_of, is_covered_by, is_kept_from, next_of, proposed_at}
 use Rattle.group_protocol.specs.Known.{Known}
 use Rattle.group_world.specs.Group.{World, world_state}
+use Rattle.group_progress.specs.Below.{Laws}
 use Rattle.group_progress.proofs.Going.{by_rules}
 use Rattle.group_progress.proofs.Steps.{Has}
 use Rattle.group_progress.proofs.Common.{Common, IsOf, Setting, grown, none_greater}
-use Rattle.group_progress.proofs.Learning.{Laws, Lead, one_ballot}
+use Rattle.group_progress.proofs.Learning.{Lead, one_ballot}
 use Rattle.group_progress.proofs.Chasing.{backed}
 use Rattle.group_progress.proofs.Telling.{some_at}
 

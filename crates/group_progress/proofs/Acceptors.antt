@@ -13,14 +13,7 @@ use Rattle.group_protocol.specs.AcceptorResponses.{unless_passed}
 use Rattle.group_protocol.specs.Known.{Known, Response}
 use Rattle.group_protocol.specs.Packets.{to_all, to_one}
 use Rattle.group_protocol.specs.Protocol.{on_message}
-
--- the tests hold where their propositions do
-pub record TestLaws : Type 0 where
-  pub below : (a b : Ballot) → (ballot_lt a b ≡ true) ↔ IsBelow a b
-  pub not_below : (a b : Ballot) → (ballot_lt a b ≡ false) ↔ IsAtMost b a
-  pub same : (a b : Ballot) → (same_ballot a b ≡ true) ↔ (a ≡ b)
-  pub same_values : (v w : Value) → (same_value v w ≡ true) ↔ (v ≡ w)
-  pub majority : (size : ℕ) (members : ℕ → Bool) → (is_majority size members ≡ true) ↔ IsMajority size members
+use Rattle.group_progress.specs.Below.{TestLaws}
 
 -- what stays of a node, whatever its acceptor answers
 pub record KeepsRest (n new : Known) : Type 0 where

@@ -25,7 +25,7 @@ use Rattle.group_node.specs.Output.{Progress}
 use Rattle.group_world.specs.Deeds.{DoesDeed, EndsCall, Left}
 use Rattle.group_world.specs.Group.{me_of, World}
 use Rattle.group_world.specs.Member.{Member, member_after_call, member_after_release}
-use Rattle.group_progress.proofs.Acceptors.{TestLaws}
+use Rattle.group_progress.specs.Below.{TestLaws}
 use Rattle.group_progress.proofs.Going.{saved}
 
 -- no Prepare, no Accept and no Accepted above the ballot

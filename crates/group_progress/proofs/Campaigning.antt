@@ -23,14 +23,13 @@ use Rattle.group_protocol.specs.WaitingKeys.{waiting_keys}
 use Rattle.group_world.specs.Group.{World, member_at, seat_of_member, world_state}
 use Rattle.group_progress.specs.GoingOn.{HasRoundAbove, ReachesWithin, messages_of_batch, most_batches, ticks_of_batch}
 use Rattle.group_world.proofs.WorldAsGroup.{running}
+use Rattle.group_progress.specs.Below.{LearnLaws, MoreLaws}
 use Rattle.group_progress.proofs.Common.{IsOf, Setting, in_messages, old_or_new}
 use Rattle.group_progress.proofs.Covering.{AskNew, Cov, Pre, Ready, cover_all}
 use Rattle.group_progress.proofs.CountedKeys.{keys_to}
-use Rattle.group_progress.proofs.Cycle.{MoreLaws}
 use Rattle.group_progress.proofs.Draining.{drain_all}
 use Rattle.group_progress.proofs.Going.{Good, by_rules}
 use Rattle.group_progress.proofs.Fronts.{ahead_on, then_on}
-use Rattle.group_progress.proofs.Onward.{LearnLaws}
 use Rattle.group_progress.proofs.Within.{stay, then, within}
 use Rattle.group_progress.proofs.KeysKept.{Shrinks}
 use Rattle.group_progress.proofs.Learners.{count_within, none_counted}

@@ -16,10 +16,11 @@ use Rattle.group_protocol.specs.Backs.{IsLeadingBacked}
 use Rattle.group_world.specs.Group.{World, world_state}
 use Rattle.group_progress.specs.GoingOn.{ReachesWithin}
 use Rattle.group_world.proofs.WorldAsGroup.{running}
+use Rattle.group_progress.specs.Below.{Laws}
 use Rattle.group_progress.proofs.Within.{stay, then, within}
 use Rattle.group_progress.proofs.Steps.{New, turn_more}
 use Rattle.group_progress.proofs.Common.{Common, IsOf, Setting}
-use Rattle.group_progress.proofs.Learning.{Further, Laws, Lead, accept_all, count_all, more_learned}
+use Rattle.group_progress.proofs.Learning.{Further, Lead, accept_all, count_all, more_learned}
 
 -- a value that is there
 pub slice_some : {X : Type 0} (xs : List X) (k : ℕ) → k < length xs → (x : X) × (slice_get xs k ≡ Some x)

@@ -18,7 +18,7 @@ use Rattle.paxos_proposer.specs.Proposer.{Proposer, is_covered, next_of}
 use Rattle.group_protocol.specs.Known.{Known, Response}
 use Rattle.group_protocol.specs.Protocol.{on_message}
 use Rattle.group_protocol.specs.ProposerResponses.{is_known, submitted, taking_part}
-use Rattle.group_progress.proofs.Acceptors.{TestLaws}
+use Rattle.group_progress.specs.Below.{TestLaws}
 use Rattle.group_progress.proofs.Calm.{IsCalmBody, IsSteady}
 use Rattle.group_progress.proofs.Learners.{Counts, IsCounted}
 use Rattle.group_progress.proofs.Telling.{tick_keeps}

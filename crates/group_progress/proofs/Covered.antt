@@ -32,9 +32,10 @@ use Rattle.group_world.specs.Group.{IsUp, member_at, World, world_state}
 use Rattle.group_world.specs.Member.{Member}
 use Rattle.group_progress.specs.Fair.{AllHoldPromise, Endless, IsFair, IsLeading, IsLed, Later}
 use Rattle.group_world.proofs.WorldAsGroup.{changed_here, running}
-use Rattle.group_progress.proofs.Acceptors.{TestLaws, promises}
+use Rattle.group_progress.specs.Below.{EventLaws, TestLaws}
+use Rattle.group_progress.proofs.Acceptors.{promises}
 use Rattle.group_progress.proofs.Calm.{UpWith, made_leaves}
-use Rattle.group_progress.proofs.Going.{EventLaws, Good, fits_at, fits_me}
+use Rattle.group_progress.proofs.Going.{Good, fits_at, fits_me}
 use Rattle.group_progress.proofs.Hearing.{hears_it, made_sends, sends_it}
 use Rattle.group_progress.proofs.Leading.{Covers, covers_steady, promise_up}
 use Rattle.group_rules.proofs.Lists.{in_from_place, in_range}

@@ -27,12 +27,13 @@ use Rattle.group_protocol.specs.Steps.{messages_handed_out}
 use Rattle.group_world.specs.Group.{World, world_state}
 use Rattle.group_progress.specs.GoingOn.{ReachesWithin}
 use Rattle.group_world.proofs.WorldAsGroup.{running}
-use Rattle.group_progress.proofs.Acceptors.{TestLaws, promises}
+use Rattle.group_progress.specs.Below.{TestLaws, Laws}
+use Rattle.group_progress.proofs.Acceptors.{promises}
 use Rattle.group_progress.proofs.Common.{IsOf, Setting, in_messages, old_or_new, one_known}
 use Rattle.group_progress.proofs.Going.{Good}
 use Rattle.group_progress.proofs.Within.{stay, then, within}
 use Rattle.group_progress.proofs.KeysKept.{Shrinks, shrink_after}
-use Rattle.group_progress.proofs.Learning.{Laws, Lead, lead_kept, not_passed}
+use Rattle.group_progress.proofs.Learning.{Lead, lead_kept, not_passed}
 use Rattle.group_progress.proofs.Proposers.{AreBelow, below_filter, below_take, reaches, reaches_many, reaches_votes, rises_on, takes}
 use Rattle.group_progress.proofs.Pumps.{pumps}
 use Rattle.group_progress.proofs.Steps.{Has, New, Step, each_within, hears, new_in, new_stays, still, turn_more}

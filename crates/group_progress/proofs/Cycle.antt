@@ -13,23 +13,15 @@ use Rattle.group_protocol.specs.Known.{Known, front}
 use Rattle.group_protocol.specs.ProposerResponses.{is_known_key}
 use Rattle.group_protocol.specs.WaitingKeys.{batch_of, waiting_keys}
 use Rattle.group_world.specs.Group.{World}
+use Rattle.group_progress.specs.Below.{Laws, MoreLaws}
 use Rattle.group_progress.proofs.Unread.{IsFirstUnread, IsUnreadAt}
 use Rattle.group_world.proofs.WorldAsGroup.{running}
 use Rattle.group_progress.proofs.Above.{Covers, front_within, none_above}
 use Rattle.group_progress.proofs.Common.{Common, IsOf, Setting, one_known}
-use Rattle.group_progress.proofs.Learning.{Laws, Lead}
-use Rattle.group_progress.proofs.Reading.{HasKey, ReadLaws, read_agree, read_at}
+use Rattle.group_progress.proofs.Learning.{Lead}
+use Rattle.group_progress.proofs.Reading.{HasKey, read_agree, read_at}
 use Rattle.group_progress.proofs.Steps.{Has}
 use Rattle.group_progress.proofs.Telling.{Ahead}
-
--- more laws
-pub record MoreLaws : Type 0 where
-  pub laws : Laws
-  pub reads : ReadLaws
-  pub has : (keys : List Key) (k : Key) → IsTrue (has_key keys k) → Contains keys k
-  pub stands : (n : Known) (k : Key) → IsTrue (is_learned n.learner.learned k) → StandsIn n.learner.learned k
-  pub batch : (n : Known) (v : Value) → batch_of n n.waiting ≡ Some v → keys_of v ≡ take MOST_CHARACTERS (waiting_keys n)
-  pub no_batch : (n : Known) → batch_of n n.waiting ≡ None → waiting_keys n ≡ []
 
 -- the first keys that wait are a batch
 pub first_batch : (more : MoreLaws) (n : Known) (k : Key) (rest : List Key) → waiting_keys n ≡ k ∷ rest

@@ -23,6 +23,7 @@ use Rattle.group_protocol.specs.Protocol.{on_message}
 use Rattle.group_protocol.specs.Tick.{asks, submits}
 use Rattle.group_protocol.specs.WaitingKeys.{waiting_keys}
 use Rattle.group_world.specs.Group.{World, world_state}
+use Rattle.group_progress.specs.Below.{LearnLaws, MoreLaws}
 use Rattle.group_progress.proofs.Unread.{IsFirstUnread}
 use Rattle.group_progress.specs.GoingOn.{ReachesWithin, messages_of_batch, most_batches, ticks_of_batch}
 use Rattle.group_progress.proofs.Above.{front_within, learned_is}
@@ -30,7 +31,6 @@ use Rattle.group_progress.proofs.Chasing.{backed, chase}
 use Rattle.group_progress.proofs.Common.{Common, Follows, IsOf, Setting, common_after, one_known, sends_new}
 use Rattle.group_progress.proofs.CountedKeys.{keys_more, keys_to, keys_up, keys_within}
 use Rattle.group_progress.proofs.Fronts.{ahead_on, then_on}
-use Rattle.group_progress.proofs.Onward.{LearnLaws}
 use Rattle.group_progress.proofs.Within.{stay, then, within}
 use Rattle.group_progress.proofs.KeysKept.{Shrinks, read_on, shrink_after, shrink_ticked}
 use Rattle.group_progress.proofs.Learning.{Lead, lead_kept}
@@ -38,7 +38,7 @@ use Rattle.group_progress.proofs.Reading.{HasKey, no_more, read_agree, read_at}
 use Rattle.group_progress.proofs.Steps.{Has, hears, ticks}
 use Rattle.group_progress.proofs.Submitting.{covered, new_value, none_after, of_offered, size_is, submit_offers, tick_rests}
 use Rattle.group_progress.proofs.Telling.{Ahead, in_bodies, some_at, tell_all, tick_keeps, tick_sends}
-use Rattle.group_progress.proofs.Cycle.{MoreLaws, Settled, first_batch, lead_read, new_key, unread}
+use Rattle.group_progress.proofs.Cycle.{Settled, first_batch, lead_read, new_key, unread}
 use Rattle.group_progress.proofs.Steps.{IsCost, each_at_cost, turn_more}
 use Rattle.group_progress.proofs.Learning.{more_learned}
 

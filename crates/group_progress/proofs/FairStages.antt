@@ -14,9 +14,9 @@ use Rattle.group_node.specs.NodeCalls.{Running}
 use Rattle.group_world.specs.Group.{IsUp, World}
 use Rattle.group_world.specs.Member.{Member}
 use Rattle.group_progress.specs.Fair.{AllHaveLearned, Endless, HasProposedPast, IsFair, IsLed, Later}
+use Rattle.group_progress.specs.Below.{EventLaws, TestLaws, FairLaws}
 use Rattle.group_progress.proofs.Covered.{known_of}
-use Rattle.group_progress.proofs.Acceptors.{TestLaws}
-use Rattle.group_progress.proofs.Going.{EventLaws, Good}
+use Rattle.group_progress.proofs.Going.{Good}
 use Rattle.group_progress.proofs.Lasting.{AreProposed, IsKeptOrProposed, IsNextAbove, LeadsWith, kept_at, next_lasts, proposed_lasts}
 use Rattle.group_progress.proofs.Moments.{LeadsAt, leads_stay, opened}
 use Rattle.group_progress.proofs.Promising.{stays}
@@ -25,7 +25,7 @@ use Rattle.group_progress.proofs.Runs.{AtWith}
 use Rattle.group_progress.proofs.Stages.{Stays, all_later, from_then, later_then, now}
 use Rattle.group_progress.proofs.Told.{IsFar, far_steady, told_all}
 use Rattle.group_progress.proofs.Voting.{front_reaches}
-use Rattle.group_progress.proofs.Waited.{FairLaws, tell_of}
+use Rattle.group_progress.proofs.Waited.{tell_of}
 
 -- from a moment in the middle on
 from_next : (P : ℕ → Type 0) (n : ℕ) → Later n (λ t. (u : ℕ) → t ≤ u → P (suc u)) → Later (suc n) (λ t. (u : ℕ) → t ≤ u → P u)

@@ -24,8 +24,9 @@ use Rattle.group_world.specs.Group.{IsUp, me_of, member_at, new_world, World, wo
 use Rattle.group_world.specs.Member.{Member, member_after_call}
 use Rattle.group_progress.specs.GoingOn.{Reaches, keys_waiting, waiting_of}
 use Rattle.group_world.proofs.WorldAsGroup.{first_node, stopped, changed_elsewhere, changed_here}
+use Rattle.group_progress.specs.Below.{EventLaws}
 use Rattle.group_progress.proofs.Chasing.{slice_some}
-use Rattle.group_progress.proofs.Going.{EventLaws, Good, lt_apart}
+use Rattle.group_progress.proofs.Going.{Good, lt_apart}
 use Rattle.group_progress.proofs.Within.{leads_then}
 use Rattle.group_progress.proofs.Runs.{AtWith}
 use Rattle.group_progress.proofs.Silent.{IsSilent}
@@ -204,9 +205,8 @@ typed_fresh n byte h = record {
 }
 
 -- one is typed at the first node
-pub typed : EventLaws → ((n : Known) (byte : ℕ) → waiting_keys (on_typed n byte).node ≡ waiting_keys n ++ keys_of (new_key n byte))
-    → (p : Parts) (g : Group) → Good (new_world p g) → TypedWorld p g
-typed laws typed_law p g begins =
+pub typed : EventLaws → (p : Parts) (g : Group) → Good (new_world p g) → TypedWorld p g
+typed laws p g begins =
     let s = started laws p g begins in
     let node : IsNode s.world.group.size 1 = (omega arith, omega (arith, s.good.holds.sound.size.odd)) in
     let at = s.fresh 1 node in
@@ -235,7 +235,7 @@ typed laws typed_law p g begins =
           let there : member_at (world_after w 1 (pressed_left m q 65)).members 1 ≡ Some (pressed_left m q 65).member =
           changed_here w.members 1 m (pressed_left m q 65).member is_up.there in
           let among : Contains (waiting_keys (on_typed q.known 65).node) (typed_key q.known 65) =
-          subst (λ ks. Contains ks (typed_key q.known 65)) (sym (typed_law q.known 65))
+          subst (λ ks. Contains ks (typed_key q.known 65)) (sym (laws.unread.typed q.known 65))
           (Contains-append_right (waiting_keys q.known) (keys_of (new_key q.known 65)) (typed_key q.known 65)
           (first_in (typed_key q.known 65) [])) in
           record {

@@ -16,7 +16,8 @@ use Rattle.group_world.specs.Group.{IsUp, World, messages_in}
 use Rattle.group_world.specs.Member.{Member}
 use Rattle.group_world.proofs.WorldAsGroup.{changed_elsewhere, changed_here}
 use Rattle.group_progress.specs.GoingOn.{IsHelpful, IsOwnEvent, ReachesWithin}
-use Rattle.group_progress.proofs.Onward.{IsNoCrash, LearnLaws, OnwardAt, deed_on, onward_itself, onward_through}
+use Rattle.group_progress.specs.Below.{LearnLaws}
+use Rattle.group_progress.proofs.Onward.{IsNoCrash, OnwardAt, deed_on, onward_itself, onward_through}
 use Rattle.group_progress.proofs.Steps.{Has}
 use Rattle.group_progress.proofs.Telling.{Ahead}
 use Rattle.group_progress.proofs.Within.{then_at}

@@ -33,22 +33,13 @@ use Rattle.group_world.specs.Group.{IsUp, me_of, member_at, messages_in, up_of, 
 use Rattle.group_world.specs.Member.{Member, failing, member_after_call}
 use Rattle.group_world.specs.Sound.{Holds, IsSound, IsSpelling}
 use Rattle.group_progress.specs.GoingOn.{IsHelpful, IsOwnEvent, Reaches, ReachesWithin, messages_by, messages_heard, ticks_by, ticks_in}
+use Rattle.group_progress.specs.Below.{EventLaws}
 use Rattle.group_progress.proofs.Within
 use Rattle.group_progress.proofs.TalliesStay.{HearsFrom, TalliesRight, tallies_stay}
-use Rattle.group_progress.proofs.Unread.{AreUnread, UnreadLaws, unread_stays}
+use Rattle.group_progress.proofs.Unread.{AreUnread, unread_stays}
 use Rattle.group_world.proofs.WorldAsGroup.{ReadLaw, changed_elsewhere, changed_here, is_node, running, sent_called}
 
 -- ---- the laws of one event
-
-pub record EventLaws : Type 0 where
-  pub holds : (w v : World) (i : ℕ) (plan : Option Bool) (deed : Deed) (d : Done) → Holds w → HearsOf w.group w.sent deed
-      → DoesAt w i plan deed d v → Holds v
-  pub unread : UnreadLaws
-  pub read : ReadLaw
-  pub fits_start : (me : Me) (r : Record) → IsMember me → IsRecord me.group.size r → r.starts < LAST_START → IsFit me (on_start me r)
-  pub fits_campaign : (n : Known) → IsInRange n → (next_ballot n).round < LAST_ROUND + 1 → front n < PLACES → IsFit n.me (on_campaign n)
-  pub fits_tick : (n : Known) → IsInRange n → IsFit n.me (on_tick n)
-  pub fits_message : (n : Known) (j : ℕ) (body : Body) → IsInRange n → IsHeardFit n.me j body → IsFit n.me (on_message n j body)
 
 -- ---- lists of events
 

@@ -26,10 +26,10 @@ use Rattle.group_world.specs.Event.{DoesAt, world_after}
 use Rattle.group_world.specs.Group.{me_of, member_at, message_of, messages_in, World, world_state}
 use Rattle.group_world.specs.Member.{Member}
 use Rattle.group_world.specs.Sound.{IsSpelling}
-use Rattle.group_progress.specs.Fair.{Endless, IsFair, IsAddressedTo, IsLed, IsOnItsWay, Later}
+use Rattle.group_progress.specs.Fair.{Endless, IsFair, IsAddressedTo, IsLed, IsSentAt, Later}
 use Rattle.group_world.proofs.WorldAsGroup.{is_node, packet_read}
-use Rattle.group_progress.proofs.Acceptors.{TestLaws}
-use Rattle.group_progress.proofs.Going.{EventLaws, Good, saved}
+use Rattle.group_progress.specs.Below.{EventLaws, TestLaws}
+use Rattle.group_progress.proofs.Going.{Good, saved}
 use Rattle.group_progress.proofs.Promising.{hears_at, messages_grow}
 use Rattle.group_progress.proofs.Runs.{good_at, group_at}
 use Rattle.group_progress.proofs.Stages.{from_then}
@@ -80,7 +80,7 @@ module _ (laws : EventLaws) (tests : TestLaws) (few : (learned : FinMap nat_cmp 
       (packet : Packet)
       → AllFit (me_of (run.world n) i) done.sends → Contains done.sends packet → IsAddressedTo j packet.to → (left : Left)
       → left.sent ≡ datagrams_of (me_of (run.world n) i) done.sends → run.world (suc n) ≡ world_after (run.world n) i left
-      → (k : ℕ) × IsOnItsWay members run (suc n) k j (record { sender = i; body = packet.body })
+      → (k : ℕ) × IsSentAt members run n k j (record { sender = i; body = packet.body })
   sends_it n i j own there done packet fits among addressed left sends leads =
       let v = run.world n in
       let sound = (good_at laws run good n).holds.sound in
@@ -93,26 +93,30 @@ module _ (laws : EventLaws) (tests : TestLaws) (few : (learned : FinMap nat_cmp 
       (λ more. v.sent ++ more) sends in (
         length v.sent + among.0,
         record {
-          datagram = datagram_of me packet;
-          there = rw whole (after_place v.sent (datagrams_of me done.sends) among.0 (datagram_of me packet) at);
-          addressed = addressed;
-          spells = subst (λ (g : Group). message_of g (datagram_of me packet) ≡ Some (record { sender = i; body = packet.body }))
-              (group_at run n)
-              (spelled.0.read ∙ ap Some spelled.1);
-          sender = own;
-          late = omega (arith, sent_longer n);
+          sent = record {
+            datagram = datagram_of me packet;
+            there = rw whole (after_place v.sent (datagrams_of me done.sends) among.0 (datagram_of me packet) at);
+            addressed = addressed;
+            spells = subst (λ (g : Group). message_of g (datagram_of me packet) ≡ Some (record { sender = i; body = packet.body }))
+                (group_at run n)
+                (spelled.0.read ∙ ap Some spelled.1);
+            sender = own;
+            late = omega (arith, sent_longer n);
+          };
+          new = omega arith;
         },
       )
 
   -- and it is heard
-  pub hears_it : IsFair members run → (n k j : ℕ) (m : Msg) → IsNode w.group.size j → IsTrue (members j) → IsOnItsWay members run
-      (suc n) k j m
+  pub hears_it : IsFair members run → (n k j : ℕ) (m : Msg) → IsNode w.group.size j → IsTrue (members j) → IsSentAt members run
+      n k j m
       → Later n (λ t. DoesAt (run.world (suc t)) j None (deed.Hear m) (run.done (suc t)) (run.world (suc (suc t)))
       × (slice_get (world_state (run.world (suc t))).sent k ≡ Some m))
-  hears_it fair n k j m node own way = by (fair.hears (suc n) k j m node own way) where
+  hears_it fair n k j m node own way = by (fair.hears n k j m node own way) where
     at : slice_get (world_state (run.world (suc n))).sent k ≡ Some m
     at = same_place (run.world (suc n)).group (run.world (suc n)).sent (good_at laws run good (suc n)).holds.sound.spelled k
-        way.datagram m way.there (subst (λ (g : Group). message_of g way.datagram ≡ Some m) (sym (group_at run (suc n))) way.spells)
+        way.sent.datagram m way.sent.there
+        (subst (λ (g : Group). message_of g way.sent.datagram ≡ Some m) (sym (group_at run (suc n))) way.sent.spells)
 
     by : Later (suc n) (λ t. (run.event t).act ≡ act.Deliver k j)
         → Later n (λ t. DoesAt (run.world (suc t)) j None (deed.Hear m) (run.done (suc t)) (run.world (suc (suc t)))

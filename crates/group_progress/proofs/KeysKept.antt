@@ -19,18 +19,11 @@ use Rattle.group_protocol.specs.Protocol.{on_message, response_to}
 use Rattle.group_protocol.specs.ProposerResponses.{is_known, submitted, taking_part}
 use Rattle.group_protocol.specs.Tick.{on_tick, ticked}
 use Rattle.group_protocol.specs.WaitingKeys.{waiting_keys, without_read}
+use Rattle.group_progress.specs.Below.{KeyLaws}
 
 -- the key waits at the node, or the node has read it
 abbrev pub KeyAt : Known → Key → Type 0
 KeyAt n key = Contains (waiting_keys n) key ⊎ Contains (keys_in_order (front_values n.learner.learned)) key
-
-pub record KeyLaws : Type 0 where
-  pub gone : (n : Known) → (gone : List Key) × (waiting_keys n ≡ gone ++ waiting_keys (without_read n))
-      × All (λ k. Contains (keys_in_order (front_values n.learner.learned)) k) gone
-  pub learned_message : (n : Known) (j : ℕ) (body : Body) → HasLearnedMore n.learner.learned (on_message n j body).node.learner.learned
-  pub more_fronts : (l m : Learner) → HasLearnedMore l.learned m.learned → (more : List Value) ×
-      (front_values m.learned ≡ front_values l.learned ++ more)
-  pub more_keys : (values more : List Value) → (rest : List Key) × (keys_in_order (values ++ more) ≡ keys_in_order values ++ rest)
 
 -- ---- calls that leave the waiting keys
 

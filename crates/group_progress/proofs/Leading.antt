@@ -15,7 +15,7 @@ use Rattle.group_protocol.specs.Protocol.{on_message}
 use Rattle.group_protocol.specs.ProposerResponses.{is_known, leaves_room, offer_after, submitted, taking_part, unless_refused}
 use Rattle.group_protocol.specs.Pump.{Proposals, offer, pump, stop}
 use Rattle.group_protocol.specs.Tick.{ticked}
-use Rattle.group_progress.proofs.Acceptors.{TestLaws}
+use Rattle.group_progress.specs.Below.{TestLaws}
 use Rattle.group_progress.proofs.Calm.{IsCalmBody, IsSteady, Promised, message_keeps, promised_kept}
 use Rattle.group_progress.proofs.Learning.{not_passed}
 use Rattle.group_progress.proofs.Proposers.{rises_on}

@@ -11,7 +11,7 @@ use Rattle.paxos_learner.proofs.OnePlace.{get_here}
 use Rattle.paxos_learner.specs.declared.learner.TheConstants.{WINDOW}
 use Rattle.paxos_learner.specs.Learner.{Hearing, Learner, counted, front_of, heard_accepted, heard_tell, is_open, learn}
 use Rattle.paxos_learner.specs.Tallies.{Tally, begun_tally, has_node, joined_tally, no_nodes, tallied, with_node}
-use Rattle.group_progress.proofs.Acceptors.{TestLaws}
+use Rattle.group_progress.specs.Below.{TestLaws}
 use Rattle.group_progress.proofs.Tallies.{AreRight, long_none, node_kept, node_put}
 
 -- ---- what is learned at a place

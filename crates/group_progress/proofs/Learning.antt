@@ -27,24 +27,15 @@ use Rattle.group_node.specs.NodeCalls.{Running}
 use Rattle.group_world.specs.Group.{World, world_state}
 use Rattle.group_progress.specs.GoingOn.{ReachesWithin}
 use Rattle.group_world.proofs.WorldAsGroup.{running}
+use Rattle.group_progress.specs.Below.{TestLaws, Laws}
 use Rattle.group_progress.proofs.Within.{stay, then, within}
-use Rattle.group_progress.proofs.Acceptors.{TestLaws, Votes, votes_for}
-use Rattle.group_progress.proofs.Going.{EventLaws, Good}
-use Rattle.group_progress.proofs.KeysKept.{KeyLaws, Shrinks, shrink_after}
+use Rattle.group_progress.proofs.Acceptors.{Votes, votes_for}
+use Rattle.group_progress.proofs.Going.{Good}
+use Rattle.group_progress.proofs.KeysKept.{Shrinks, shrink_after}
 use Rattle.group_progress.proofs.Learners.{Counts, IsLearnedAt, MayJoin, hears_accepted, learned_by}
 use Rattle.group_progress.proofs.Tallies.{AreRight}
 use Rattle.group_progress.proofs.Steps.{Has, New, Step, each_within, hears, still}
 use Rattle.group_progress.proofs.Common.{Common, Follows, IsOf, Setting, common_after, grown, none_greater, one_known, sends_new, still_new}
-
--- all laws
-pub record Laws : Type 0 where
-  pub events : EventLaws
-  pub tests : TestLaws
-  pub keys : KeyLaws
-  pub front : (l : Learner) → IsFront l.learned (front_of l.learned)
-  pub front_rises : (old new : Learner) → HasLearnedMore old.learned new.learned → front_of old.learned ≤ front_of new.learned
-  pub learned_accepted : (l : Learner) (i s : ℕ) (b : Ballot) (v : Value) → HasLearnedMore l.learned
-      (heard_accepted l i b s v).learner.learned
 
 -- the leading node has this proposer under the ballot, has learned so far, and has offered these keys
 pub record Lead (x : Setting) (w : World) (p : Proposer) (l : Learner) (offered : List Key) : Type 0 where

@@ -28,10 +28,10 @@ use Rattle.group_world.specs.Group.{IsUp, me_of, member_at, World, world_state}
 use Rattle.group_world.specs.Member.{Member}
 use Rattle.group_progress.specs.Fair.{Endless, IsLed}
 use Rattle.group_world.proofs.WorldAsGroup.{changed_elsewhere, changed_here, running}
-use Rattle.group_progress.proofs.Acceptors.{TestLaws}
+use Rattle.group_progress.specs.Below.{EventLaws, TestLaws}
 use Rattle.group_progress.proofs.Calm.{UpWith}
 use Rattle.group_progress.proofs.Covered.{known_of}
-use Rattle.group_progress.proofs.Going.{EventLaws, Good}
+use Rattle.group_progress.proofs.Going.{Good}
 use Rattle.group_progress.proofs.Lasting.{AreProposed, IsFirst, IsLasting, LeadsWith, leads_steady}
 use Rattle.group_progress.proofs.Learners.{MayJoin}
 use Rattle.group_progress.proofs.Learning.{one_ballot}

@@ -28,9 +28,10 @@ use Rattle.group_world.specs.Group.{IsUp, me_of, member_at, World, world_state}
 use Rattle.group_world.specs.Member.{Member, member_after_call}
 use Rattle.paxos_msg.specs.Tests.{ballot_lt}
 use Rattle.group_world.proofs.WorldAsGroup.{running}
-use Rattle.group_progress.proofs.Acceptors.{TestLaws, promises}
+use Rattle.group_progress.specs.Below.{EventLaws, TestLaws}
+use Rattle.group_progress.proofs.Acceptors.{promises}
 use Rattle.group_progress.proofs.FirstWorld.{IsFresh}
-use Rattle.group_progress.proofs.Going.{EventLaws, Good, ends, fits_me, lt_apart, lt_true}
+use Rattle.group_progress.proofs.Going.{Good, ends, fits_me, lt_apart, lt_true}
 use Rattle.group_progress.proofs.Headless.{IsHeadless, IsHeadlessBody, one_packet}
 use Rattle.group_progress.proofs.Quiet.{Next, calls_with}
 use Rattle.group_progress.proofs.Runs.{AtWith}

@@ -29,12 +29,12 @@ use Rattle.group_world.specs.Member.{Member, member_after_call}
 use Rattle.group_world.specs.declared.event.Outcome.TheVariants.{Kept}
 use Rattle.group_protocol.specs.Ranges.{IsHeardFit}
 use Rattle.group_progress.specs.GoingOn.{HasRead, keys_waiting, waiting_of}
-use Rattle.group_progress.specs.Fair.{Endless, IsOnItsWay, Later}
+use Rattle.group_progress.specs.Fair.{Endless, WasSentTo, Later}
 use Rattle.group_progress.specs.Stuck.{HasStuckRun, HearsAndTicks, IsLedOpenly, IsOpenAct}
 use Rattle.group_world.proofs.WorldAsGroup.{changed_elsewhere, is_node, running}
-use Rattle.group_progress.proofs.Acceptors.{TestLaws}
+use Rattle.group_progress.specs.Below.{EventLaws, TestLaws}
 use Rattle.group_progress.proofs.FirstWorld.{IsFresh, TypedWorld, group_stays}
-use Rattle.group_progress.proofs.Going.{EventLaws, Good, ends, fits_at, fits_me}
+use Rattle.group_progress.proofs.Going.{Good, ends, fits_at, fits_me}
 use Rattle.group_progress.proofs.Within.{leads_then}
 use Rattle.group_progress.proofs.Headless.{IsHeadless, IsHeadlessBody, hears_headless, ticks_headless}
 use Rattle.group_progress.proofs.Covered.{at_more}
@@ -301,7 +301,7 @@ module _ (laws : EventLaws) (tests : TestLaws) (fronts : (learned : FinMap nat_c
       )
 
   -- and hears each message again
-  hears_later : (n k i : ℕ) (m : Msg) → IsNode typed.first.world.group.size i → IsTrue (ours i) → IsOnItsWay ours run n k i m
+  hears_later : (n k i : ℕ) (m : Msg) → IsNode typed.first.world.group.size i → IsTrue (ours i) → WasSentTo ours run n k i m
       → Later n (λ t. (event_at t).act ≡ act.Deliver k i)
   hears_later n k i m node mine way =
       let there = same_place (world_at n).group (world_at n).sent (good_at n).holds.sound.spelled k way.datagram m way.there
@@ -373,9 +373,12 @@ module _ (laws : EventLaws) (tests : TestLaws) (fronts : (learned : FinMap nat_c
         (second.next.world, Applied, second.next.goes, refl);
     majority = most;
     led = run_led;
-    fair = record {
-      ticks = λ n i node mine. ticks_later n i (own_node i node) mine;
-      hears = λ n k i m node mine way. hears_later n k i m (own_node i node) mine way;
+    heard = record {
+      fair = record {
+        ticks = λ n i node mine. ticks_later n i (own_node i node) mine;
+        hears = λ n k i m node mine way. hears_later (suc n) k i m (own_node i node) mine way.sent;
+      };
+      hears = record { hears = λ n k i m node mine way. hears_later n k i m (own_node i node) mine way };
     };
     key = typed.key;
     waits = waits_there;

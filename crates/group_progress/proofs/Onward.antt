@@ -26,6 +26,7 @@ use Rattle.group_world.specs.Group.{IsUp, me_of, World, world_state}
 use Rattle.group_world.specs.Member.{Member, member_after_release}
 use Rattle.group_progress.specs.Fair.{Endless, IsCalmAct, IsLed}
 use Rattle.group_world.proofs.WorldAsGroup.{changed_elsewhere, changed_here}
+use Rattle.group_progress.specs.Below.{LearnLaws}
 use Rattle.group_progress.proofs.Calm.{made_leaves}
 use Rattle.group_progress.proofs.Stages.{Stays}
 
@@ -54,12 +55,6 @@ pub record UpOnward (q : Running) (m : Member) : Type 0 where
   pub running : Running
   pub up : m.node ≡ Some running
   pub on : Onward q running
-
--- what is learned stays learned
-pub record LearnLaws : Type 0 where
-  pub message : (n : Known) (j : ℕ) (body : Body) → HasLearnedMore n.learner.learned (on_message n j body).node.learner.learned
-  pub campaign : (n : Known) → HasLearnedMore n.learner.learned (on_campaign n).node.learner.learned
-  pub tick : (n : Known) → HasLearnedMore n.learner.learned (on_tick n).node.learner.learned
 
 -- any deed but a crash
 abbrev pub IsNoCrash : Deed → Type 0

@@ -24,22 +24,14 @@ use Rattle.group_world.specs.Member.{Member, member_after_release}
 use Rattle.group_progress.specs.GoingOn.{ShowsBytes}
 use Rattle.group_progress.specs.Fair.{AllIsShown, Endless, IsLed, KeepsPlaying, Later}
 use Rattle.group_world.proofs.WorldAsGroup.{changed_here, running}
+use Rattle.group_progress.specs.Below.{PlayedLaws}
 use Rattle.group_progress.proofs.Chasing.{slice_some}
 use Rattle.group_progress.proofs.Going.{Good, by_rules}
 use Rattle.group_progress.proofs.Moments.{one_running}
-use Rattle.group_progress.proofs.Onward.{LearnLaws, Onward, OnwardAt, does_at, onward_itself, onward_stays, onward_through, program_at}
+use Rattle.group_progress.proofs.Onward.{Onward, OnwardAt, does_at, onward_itself, onward_stays, onward_through, program_at}
 use Rattle.group_progress.proofs.Runs.{good_at}
-use Rattle.group_progress.proofs.Showing.{MOST_STEPS, ShowLaws, console_compares, out_is, stays as still_after, written}
+use Rattle.group_progress.proofs.Showing.{MOST_STEPS, console_compares, out_is, stays as still_after, written}
 use Rattle.group_progress.proofs.Stages.{Stays, from_then, later_then, now}
-
--- the laws of output and of input
-pub record PlayedLaws : Type 0 where
-  pub show : ShowLaws
-  pub learn : LearnLaws
-  pub input : (p : Parts) (x y : List ℕ) (n : ℕ) → IsPrefix x y → IsPrefix (out p x n) (out p y n)
-  pub below : (a b c d : List ℕ) → IsPrefix a c → IsPrefix b d → AreComparable c d → AreComparable a b
-  pub learned : (old new : FinMap nat_cmp Value) → HasLearnedMore old new
-      → (rest : List ℕ) × (learned_input new ≡ learned_input old ++ rest)
 
 -- a prefix is no longer
 no_longer : {a b : List ℕ} → IsPrefix a b → length a ≤ length b

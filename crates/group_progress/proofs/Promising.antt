@@ -32,11 +32,12 @@ use Rattle.group_world.specs.Event.{DoesAt, Goes, IsDeedOf, kept_event, node_of,
 use Rattle.group_world.specs.Group.{IsUp, me_of, message_of, messages_in, World, world_state}
 use Rattle.group_world.specs.Member.{Member, member_after_call}
 use Rattle.group_world.specs.Sound.{IsSpelling}
-use Rattle.group_progress.specs.Fair.{Endless, IsFair, IsLed, IsOnItsWay, Later}
+use Rattle.group_progress.specs.Fair.{Endless, IsFair, IsLed, IsSentAt, Later}
 use Rattle.group_world.proofs.WorldAsGroup.{changed_elsewhere, changed_here, is_node, packet_read, running, sent_called}
-use Rattle.group_progress.proofs.Acceptors.{TestLaws, promises}
+use Rattle.group_progress.specs.Below.{EventLaws, TestLaws}
+use Rattle.group_progress.proofs.Acceptors.{promises}
 use Rattle.group_progress.proofs.Calm.{IsSteady, Low, Promised, UpWith, low_kept, made_leaves, promise_steady, promised_kept}
-use Rattle.group_progress.proofs.Going.{EventLaws, Good, fits_me}
+use Rattle.group_progress.proofs.Going.{Good, fits_me}
 use Rattle.group_progress.proofs.Leading.{Covers}
 use Rattle.group_progress.proofs.Runs.{AtWith, goes_on, good_at, group_at}
 use Rattle.group_progress.proofs.Stages.{Stays, all_later, later_then, now}
@@ -280,18 +281,21 @@ module _ (laws : EventLaws) (tests : TestLaws) (few : (learned : FinMap nat_cmp 
       }
 
   module _ (fair : IsFair members run) where
-    on_its_way : (i : ℕ) → IsOnItsWay members run 1 (length w.sent) i Asked
-    on_its_way i = record {
-      datagram = begun.datagram;
-      there = rw begun.sent (at_end w.sent begun.datagram);
-      addressed = rw begun.for_all tt;
-      spells = begun.spells;
-      sender = led.own;
-      late = omega arith;
+    sent_first : (i : ℕ) → IsSentAt members run 0 (length w.sent) i Asked
+    sent_first i = record {
+      sent = record {
+        datagram = begun.datagram;
+        there = rw begun.sent (at_end w.sent begun.datagram);
+        addressed = rw begun.for_all tt;
+        spells = begun.spells;
+        sender = led.own;
+        late = omega arith;
+      };
+      new = omega (arith, ap (λ (v : World). length v.sent) run.begins);
     }
 
     one_promises : (i : ℕ) → IsNode w.group.size i → IsTrue (members i) → Later 0 (λ n. AtWith Agreed (run.world (suc n)) i)
-    one_promises i node own = by (fair.hears 1 (length w.sent) i Asked node own (on_its_way i)) where
+    one_promises i node own = by (fair.hears 0 (length w.sent) i Asked node own (sent_first i)) where
       by : Later 1 (λ t. (run.event t).act ≡ act.Deliver (length w.sent) i) → Later 0 (λ n. AtWith Agreed (run.world (suc n)) i)
       by (zero, less, acts) = absurd (omega (arith, less))
       by (suc n, less, acts) = (suc n, omega arith, promised_then n i node own acts)

@@ -23,8 +23,9 @@ use Rattle.group_world.specs.Event.{DoesAt, Goes, IsDeedOf, kept_event, node_of,
 use Rattle.group_world.specs.Group.{IsUp, me_of, member_at, messages_in, World, world_state}
 use Rattle.group_world.specs.Member.{Member, member_after_release}
 use Rattle.group_world.proofs.WorldAsGroup.{changed_elsewhere, changed_here, running, sent_called}
+use Rattle.group_progress.specs.Below.{EventLaws}
 use Rattle.group_progress.proofs.Calm.{UpWith}
-use Rattle.group_progress.proofs.Going.{EventLaws, Good, ends, fits_at, fits_me, left_by}
+use Rattle.group_progress.proofs.Going.{Good, ends, fits_at, fits_me, left_by}
 use Rattle.group_rules.proofs.Lists.{in_from_place}
 use Rattle.group_progress.proofs.Runs.{AtWith}
 use Rattle.group_progress.proofs.Starting.{happens_good}

@@ -15,20 +15,12 @@ use Rattle.group_world.specs.Group.{World, seat_of_member, up_of, world_state}
 use Rattle.group_rules.specs.Claims.{HasLearned, LearnedAgree}
 use Rattle.group_rules.specs.Invariants.{HoldsByRules}
 use Rattle.group_rules.specs.Rules.{WorldState}
+use Rattle.group_progress.specs.Below.{KeyLaws, ReadLaws}
 use Rattle.group_progress.proofs.Unread.{IsFirstUnread}
 use Rattle.group_rules.proofs.Lists.{in_filter, in_flat_map, in_from_place}
 use Rattle.group_progress.proofs.Going.{Good}
-use Rattle.group_progress.proofs.KeysKept.{KeyLaws}
 use Rattle.group_progress.proofs.Steps.{Has}
 use Rattle.group_progress.proofs.Telling.{some_at}
-
-pub record ReadLaws : Type 0 where
-  pub same : (k other : Key) → (same_key k other ≡ true) ↔ (k ≡ other)
-  pub many : (learned : FinMap nat_cmp Value) (n : ℕ) → n ≤ front_of learned → length (values_below learned n) ≡ n
-  pub at_place : (learned : FinMap nat_cmp Value) (n s : ℕ) → n ≤ front_of learned → s < n → slice_get (values_below learned n) s ≡ get
-      learned s
-  pub agree : (w : WorldState) → HoldsByRules w → LearnedAgree w
-  pub front : (learned : FinMap nat_cmp Value) → IsFront learned (front_of learned)
 
 -- the keys that a node has read
 abbrev pub HasKey : Known → Key → Type 0

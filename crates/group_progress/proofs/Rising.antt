@@ -34,12 +34,12 @@ use Rattle.group_world.specs.Group.{IsUp, World, world_state}
 use Rattle.group_world.specs.Member.{Member}
 use Rattle.group_progress.specs.Fair.{Endless, IsFair, IsLed, Later}
 use Rattle.group_world.proofs.WorldAsGroup.{changed_here, running}
+use Rattle.group_progress.specs.Below.{EventLaws, TestLaws}
 use Rattle.group_progress.proofs.Above.{none_best, none_kept, none_proposed}
-use Rattle.group_progress.proofs.Acceptors.{TestLaws}
 use Rattle.group_progress.proofs.Calm.{UpWith, made_leaves}
 use Rattle.group_progress.proofs.Chasing.{proposed_in}
 use Rattle.group_progress.proofs.Covered.{IsAllCovered, IsCoveredBy, at_more, covered, covered_stays, known_of}
-use Rattle.group_progress.proofs.Going.{EventLaws, Good, by_rules}
+use Rattle.group_progress.proofs.Going.{Good, by_rules}
 use Rattle.group_progress.proofs.Lasting.{IsFirst, IsKeptOrProposed, IsNextAbove, LeadsWith, first_lasts, kept_lasts, kept_lower, leads_of, next_lasts, pump_lasts}
 use Rattle.group_progress.proofs.Leading.{Covers, pump_same}
 use Rattle.group_progress.proofs.Learners.{count_within}

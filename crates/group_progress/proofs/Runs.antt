@@ -24,9 +24,9 @@ use Rattle.group_world.specs.Group.{me_of, member_at, seat_of_member, World, wor
 use Rattle.group_world.specs.Member.{Member}
 use Rattle.group_progress.specs.Fair.{Endless, IsCalm, IsCalmAct, Outranks}
 use Rattle.group_world.proofs.WorldAsGroup.{changed_elsewhere, changed_here, running}
-use Rattle.group_progress.proofs.Acceptors.{TestLaws}
+use Rattle.group_progress.specs.Below.{EventLaws, TestLaws}
 use Rattle.group_progress.proofs.Calm.{IsCalmDeed, IsCalmBody, IsSteady, Low, OfPromise, UpWith, deed_keeps}
-use Rattle.group_progress.proofs.Going.{EventLaws, Good}
+use Rattle.group_progress.proofs.Going.{Good}
 use Rattle.group_rules.proofs.Lists.{in_from_place}
 use Rattle.group_progress.proofs.Starting.{happens_good}
 

@@ -16,14 +16,14 @@ use Rattle.group_protocol.specs.Tick.{on_tick, ticked}
 use Rattle.group_world.specs.Group.{World, world_state}
 use Rattle.group_progress.specs.GoingOn.{ReachesWithin}
 use Rattle.group_world.proofs.WorldAsGroup.{running}
+use Rattle.group_progress.specs.Below.{LearnLaws, MoreLaws}
 use Rattle.group_progress.proofs.Above.{Covers, front_within}
 use Rattle.group_progress.proofs.Chasing.{chase}
 use Rattle.group_progress.proofs.Common.{Common, Follows, IsOf, Setting, common_after, one_known}
 use Rattle.group_progress.proofs.Covering.{Covered}
-use Rattle.group_progress.proofs.Cycle.{MoreLaws, Settled}
+use Rattle.group_progress.proofs.Cycle.{Settled}
 use Rattle.group_progress.proofs.Within.{stay, then, within}
 use Rattle.group_progress.proofs.Fronts.{ahead_on, then_on}
-use Rattle.group_progress.proofs.Onward.{LearnLaws}
 use Rattle.group_progress.proofs.KeysKept.{Shrinks, shrink_ticked}
 use Rattle.group_progress.proofs.Learning.{Lead}
 use Rattle.group_progress.proofs.Proposers.{AreBelow, kept_below}

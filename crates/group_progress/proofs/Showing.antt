@@ -26,19 +26,14 @@ use Rattle.group_world.specs.Group.{IsUp, me_of, member_at, messages_in, up_of, 
 use Rattle.group_world.specs.Member.{Member, RunsMember, at_progress, member_after_release}
 use Rattle.group_world.specs.Sound.{Holds}
 use Rattle.group_progress.specs.GoingOn.{IsHelpful, Reaches}
+use Rattle.group_progress.specs.Below.{EventLaws, PlayLaws, ShowLaws}
 use Rattle.group_progress.proofs.Chasing.{slice_some}
-use Rattle.group_progress.proofs.Going.{EventLaws, Good, by_rules, deed_good, heard_by, once, stay, then}
+use Rattle.group_progress.proofs.Going.{Good, by_rules, deed_good, heard_by, once, stay, then}
 use Rattle.group_world.proofs.WorldAsGroup.{changed_elsewhere, changed_here, running}
 
 -- what a machine has written
 abbrev pub written : Running → List ℕ
 written q = out q.progress.program (input q.known) q.progress.steps
-
-pub record PlayLaws : Type 0 where
-  pub compares : (w : WorldState) (i : ℕ) (u : Up) → HoldsByRules w → (w.seats i).up ≡ Some u
-      → AreComparable (w.seats i).console u.configuration.output
-  pub itself : (a : List ℕ) → IsPrefix a a
-  pub shorter : (a b : List ℕ) → AreComparable a b → length a ≤ length b → IsPrefix a b
 
 -- the console of a node is comparable with what its machine has written
 pub console_compares : PlayLaws → {w : World} → Holds w → {i : ℕ} {m : Member} {q : Running} → IsUp w i m q
@@ -47,12 +42,6 @@ unfolding out
 console_compares laws {w} holds {i} {m} {q} is_up =
     let compares = laws.compares (world_state w) i (up_of q) holds.rules (rw (is_up.there, is_up.up) refl) in
     rw is_up.there at compares
-
-pub record ShowLaws : Type 0 where
-  pub events : EventLaws
-  pub play : PlayLaws
-  pub grows : (p : Parts) (x : List ℕ) (m n : ℕ) → m ≤ n → IsPrefix (out p x m) (out p x n)
-  pub through : (a b c : List ℕ) → IsPrefix a b → IsPrefix b c → IsPrefix a c
 
 -- ---- an event at which nothing is sent
 

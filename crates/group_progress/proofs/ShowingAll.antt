@@ -7,8 +7,9 @@ use Rattle.group_node.specs.States.{input}
 use Rattle.group_protocol.specs.Known.{Known}
 use Rattle.group_world.specs.Group.{IsUp, World, member_at}
 use Rattle.group_progress.specs.GoingOn.{AllHaveCaughtUp, AllHaveReadAndShown, HasReadAndShown, Reaches}
+use Rattle.group_progress.specs.Below.{ShowLaws}
 use Rattle.group_progress.proofs.Going.{Good, stay, then}
-use Rattle.group_progress.proofs.Showing.{MOST_STEPS, ShowLaws, may_show}
+use Rattle.group_progress.proofs.Showing.{MOST_STEPS, may_show}
 use Rattle.group_progress.proofs.Steps.{each_in_turn}
 
 module _ (laws : ShowLaws) (members : ℕ → Bool) (n steps : ℕ) (low : steps ≤ MOST_STEPS) (size : ℕ) (keys : List Key) (w : World)

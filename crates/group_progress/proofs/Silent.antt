@@ -24,7 +24,8 @@ use Rattle.group_protocol.specs.ProposerResponses.{next_ballot, on_campaign, pre
 use Rattle.group_protocol.specs.Pump.{pump, stop}
 use Rattle.group_protocol.specs.Tick.{accept_again, accepts_again, asks, asks_again, on_tick, prepares_again, submits, ticked}
 use Rattle.group_protocol.specs.WaitingKeys.{batch_of, count_gone}
-use Rattle.group_progress.proofs.Acceptors.{TestLaws, promises}
+use Rattle.group_progress.specs.Below.{TestLaws}
+use Rattle.group_progress.proofs.Acceptors.{promises}
 use Rattle.group_progress.proofs.Learning.{not_passed}
 use Rattle.group_rules.proofs.Lists.{of_filter_map}
 use Rattle.group_progress.proofs.Pumps.{rests}

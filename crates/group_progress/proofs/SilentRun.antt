@@ -10,9 +10,8 @@ use Rattle.group_world.specs.declared.event.Act.{Act}
 use Rattle.group_world.specs.declared.event.Act.TheVariants as act
 use Rattle.group_world.specs.Group.{World, world_state}
 use Rattle.group_progress.specs.Fair.{Outranks}
-use Rattle.group_progress.proofs.Acceptors.{TestLaws}
-use Rattle.group_progress.proofs.Going.{EventLaws}
 use Rattle.group_rules.proofs.Lists.{in_from_place}
+use Rattle.group_progress.specs.Below.{EventLaws, TestLaws}
 use Rattle.group_progress.proofs.Silent.{IsSilent, IsSilentBody, hears_silent, is_submit, silent_heard, ticks_silent}
 use Rattle.group_progress.proofs.Quiet.{Next, Quiet, everyone, hears_so, ticks_so}
 

@@ -27,10 +27,10 @@ use Rattle.group_world.specs.Event.{Goes, kept_event}
 use Rattle.group_world.specs.Group.{IsUp, me_of, member_at, World, world_state, message_of, messages_in}
 use Rattle.group_world.specs.Member.{Member}
 use Rattle.group_progress.specs.GoingOn.{HasRead}
-use Rattle.group_progress.specs.Fair.{Endless, HasFairRun, IsLed, Later, IsCalmAct, IsOnItsWay}
+use Rattle.group_progress.specs.Fair.{Endless, HasFairRun, IsLed, Later, IsCalmAct, WasSentTo}
 use Rattle.group_world.proofs.WorldAsGroup.{is_node, running}
-use Rattle.group_progress.proofs.Acceptors.{TestLaws}
-use Rattle.group_progress.proofs.Going.{EventLaws, Good, ends, fits_me, lt_apart, lt_true}
+use Rattle.group_progress.specs.Below.{EventLaws, TestLaws}
+use Rattle.group_progress.proofs.Going.{Good, ends, fits_me, lt_apart, lt_true}
 use Rattle.group_progress.proofs.Moments.{one_running}
 use Rattle.group_progress.proofs.Promising.{kept_place}
 use Rattle.group_progress.proofs.Runs.{AtWith}
@@ -249,13 +249,13 @@ module _ (S W : Type 0) (idling : Idling S W) (laws : EventLaws) (tests : TestLa
       )
 
   -- the message of a datagram
-  pub message_there : (n k i : ℕ) (m : Msg) → IsOnItsWay everyone run n k i m → slice_get (world_state (world_at n)).sent k ≡ Some m
+  pub message_there : (n k i : ℕ) (m : Msg) → WasSentTo everyone run n k i m → slice_get (world_state (world_at n)).sent k ≡ Some m
   message_there n k i m way =
       same_place (world_at n).group (world_at n).sent (good_moment n).holds.sound.spelled k way.datagram m way.there
       (subst (λ (g : Group). message_of g way.datagram ≡ Some m) (sym (group_is n)) way.spells)
 
   -- each message that is no Submit is heard again
-  pub hears_later : (n k i : ℕ) (m : Msg) → IsNode w.group.size i → IsOnItsWay everyone run n k i m → is_submit m.body ≡ false
+  pub hears_later : (n k i : ℕ) (m : Msg) → IsNode w.group.size i → WasSentTo everyone run n k i m → is_submit m.body ≡ false
       → Later n (λ t. (event_at t).act ≡ act.Deliver k i)
   hears_later n k i m node way none =
       let (t, less, at) = comes (suc k * 10 + i) n in
@@ -270,7 +270,7 @@ module _ (S W : Type 0) (idling : Idling S W) (laws : EventLaws) (tests : TestLa
       )
 
   -- what is said is silent
-  pub said_silent : (n k i : ℕ) (m : Msg) → IsOnItsWay everyone run n k i m → IsSilentBody S (record { round = 1; node = 1 }) m.body
+  pub said_silent : (n k i : ℕ) (m : Msg) → WasSentTo everyone run n k i m → IsSilentBody S (record { round = 1; node = 1 }) m.body
   said_silent zero k i m way = absurd (none m (in_from_place (world_state w).sent k m (message_there zero k i m way)))
   said_silent (suc n) k i m way =
       (moment n).quiet.said m (in_from_place (world_state (moment n).world).sent k m (message_there (suc n) k i m way))
@@ -330,13 +330,13 @@ module _ (laws : EventLaws) (tests : TestLaws) (fronts : (learned : FinMap nat_c
 
   -- what they hear
   hears_of : (S W : Type 0) (idling : Idling S W) (first : FirstWorld W p g) (n k i : ℕ) (m : Msg) → IsNode first.world.group.size i
-      → IsOnItsWay everyone (run_of S W idling first) n k i m → is_submit m.body ≡ false
+      → WasSentTo everyone (run_of S W idling first) n k i m → is_submit m.body ≡ false
       → Later n (λ t. ((run_of S W idling first).event t).act ≡ act.Deliver k i)
   hears_of S W idling first = hears_later S W idling laws tests fronts first.world first.good first.none first.fresh
 
   -- where no Submit is said, all
   hears_all : (W : Type 0) (idling : Idling ⊥ W) (first : FirstWorld W p g) (n k i : ℕ) (m : Msg) → IsNode first.world.group.size i
-      → IsOnItsWay everyone (run_of ⊥ W idling first) n k i m → Later n (λ t. ((run_of ⊥ W idling first).event t).act ≡ act.Deliver k i)
+      → WasSentTo everyone (run_of ⊥ W idling first) n k i m → Later n (λ t. ((run_of ⊥ W idling first).event t).act ≡ act.Deliver k i)
   hears_all W idling first n k i m node way =
       hears_of ⊥ W idling first n k i m node way (none_submitted (record { round = 1; node = 1 }) m.body
       (said_silent ⊥ W idling laws tests fronts first.world first.good first.none first.fresh n k i m way))
@@ -360,7 +360,7 @@ module _ (laws : EventLaws) (tests : TestLaws) (fronts : (learned : FinMap nat_c
     led = led_of ⊥ ⊥ (ticking ⊥ ⊥ (λ x. x) laws tests) first;
     fair = record {
       ticks = λ n i node own. idles_of ⊥ ⊥ (ticking ⊥ ⊥ (λ x. x) laws tests) first n i node;
-      hears = λ n k i m node own way. hears_all ⊥ (ticking ⊥ ⊥ (λ x. x) laws tests) first n k i m node way;
+      hears = λ n k i m node own way. hears_all ⊥ (ticking ⊥ ⊥ (λ x. x) laws tests) first (suc n) k i m node way.sent;
     };
   }
 
@@ -376,7 +376,7 @@ module _ (laws : EventLaws) (tests : TestLaws) (fronts : (learned : FinMap nat_c
     leads = typed.first.leads;
     majority = majority_is (Unit {0}) typed.first;
     led = led_of ⊥ (Unit {0}) (releasing laws tests) typed.first;
-    fair = record { hears = λ n k i m node own way. hears_all (Unit {0}) (releasing laws tests) typed.first n k i m node way };
+    heard = record { hears = λ n k i m node own way. hears_all (Unit {0}) (releasing laws tests) typed.first n k i m node way };
     key = typed.key;
     waits = typed.waits;
     unread = λ t i own. unread_of ⊥ (Unit {0}) (releasing laws tests) typed.first typed.key t i;
@@ -394,7 +394,7 @@ module _ (laws : EventLaws) (tests : TestLaws) (fronts : (learned : FinMap nat_c
     leads = typed.first.leads;
     majority = majority_is (Unit {0}) typed.first;
     led = led_of (Unit {0}) (Unit {0}) (ticking (Unit {0}) (Unit {0}) (λ x. x) laws tests) typed.first;
-    fair = record {
+    heard = record {
       ticks = λ n i node own. idles_of (Unit {0}) (Unit {0}) (ticking (Unit {0}) (Unit {0}) (λ x. x) laws tests) typed.first n i node;
       hears = λ n k i m node own way other.
           hears_of (Unit {0}) (Unit {0}) (ticking (Unit {0}) (Unit {0}) (λ x. x) laws tests) typed.first n k i m node way

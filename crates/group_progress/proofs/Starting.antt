@@ -10,6 +10,8 @@ use Rattle.paxos_msg.specs.Batches.{Record, Sent, Vote}
 use Rattle.paxos_msg.specs.Keys.{Key}
 use Rattle.group_protocol.proofs.Elements.{first_in, none_in, rest_in}
 use Rattle.group_protocol.specs.Known.{on_start}
+use Rattle.group_protocol.specs.States.{IsSize}
+use Rattle.paxos_msg.specs.Fits.{IsGroup}
 use Rattle.group_node.specs.NodeCalls.{Running}
 use Rattle.group_world.specs.declared.event.Event.{Event}
 use Rattle.group_world.specs.Event.{DoesAt, HearsOf, LeadsBy}
@@ -20,12 +22,11 @@ use Rattle.group_world.specs.Group.{IsUp, World, me_of, member_at, new_world, wo
 use Rattle.group_world.specs.Member.{Member}
 use Rattle.group_progress.specs.GoingOn.{AllHaveCaughtUp, HasLeft, HasRoundAbove, HaveLeft, HaveOpen, MayReachWithin, ReachesWithin, learned_to, most_messages, most_ticks, waiting_at, keys_waiting, waiting_of}
 use Rattle.group_protocol.specs.WaitingKeys.{waiting_keys}
+use Rattle.group_progress.specs.Below.{EventLaws, LearnLaws, MoreLaws}
 use Rattle.group_progress.proofs.Campaigning.{UpReady, read_all}
 use Rattle.group_progress.proofs.Chasing.{slice_some}
-use Rattle.group_progress.proofs.Onward.{LearnLaws}
 use Rattle.group_progress.proofs.Within.{stay, then, within}
-use Rattle.group_progress.proofs.Cycle.{MoreLaws}
-use Rattle.group_progress.proofs.Going.{EventLaws, Good, deed_good, heard_by}
+use Rattle.group_progress.proofs.Going.{Good, deed_good, heard_by}
 use Rattle.group_rules.proofs.Lists.{of_flat_map, of_range}
 use Rattle.group_progress.proofs.Proposers.{AreBelow}
 use Rattle.group_progress.proofs.Steps.{each_within, starts, still}
@@ -43,21 +44,22 @@ happens_good laws w (e ∷ events) v good (mid, d, goes, rest) =
     let heard = heard_by w.group w.sent e.act goes.deed goes.is_deed in
     happens_good laws mid events v (deed_good laws w mid _ _ goes.deed d good heard goes.does) rest
 
--- the same of a sound world alone
-pub happens_sound : ((w v : World) (i : ℕ) (plan : Option Bool) (deed : Deed) (d : Done) → IsSound w → HearsOf w.group w.sent deed →
-    DoesAt w i plan deed d v → IsSound v)
-    → (w : World) (events : List Event) (v : World) → IsSound w → LeadsBy w events v → IsSound v
-happens_sound law w [] v sound is = subst IsSound (sym is) sound
-happens_sound law w (e ∷ events) v sound (mid, d, goes, rest) =
-    happens_sound law mid events v (law w mid _ _ goes.deed d sound (heard_by w.group w.sent e.act goes.deed goes.is_deed) goes.does) rest
-
-pub first_tallies : (p : Parts) (group : Group) → TalliesRight (new_world p group)
+first_tallies : (p : Parts) (group : Group) → TalliesRight (new_world p group)
 first_tallies p group = record {
   members = λ i m at. subst (λ (x : Member). IfSome x.node (λ (q : Running). AreRight q.known.learner)) (first_node p group i m at) tt;
 }
 
-pub first_unread : (p : Parts) (group : Group) → AreUnread (new_world p group)
+first_unread : (p : Parts) (group : Group) → AreUnread (new_world p group)
 first_unread p group i m at = subst (OfMember IsUnreadAt) (first_node p group i m at) tt
+
+-- what holds of each world that is reached
+pub good_at_first : EventLaws → (p : Parts) (group : Group) → IsSize group.size → IsGroup group → Good (new_world p group)
+good_at_first laws p group size session =
+    record { holds = laws.begins p group size session; unread = first_unread p group; tallies = first_tallies p group }
+
+pub reached : EventLaws → (p : Parts) (group : Group) → IsSize group.size → IsGroup group → (events : List Event) (w : World)
+    → LeadsBy (new_world p group) events w → Good w
+reached laws p group size session events w leads = happens_good laws _ events w (good_at_first laws p group size session) leads
 
 -- ---- nodes that start
 

@@ -13,9 +13,10 @@ use Rattle.group_node.specs.Output.{Progress}
 use Rattle.group_world.specs.Group.{me_of, member_at, World, world_state}
 use Rattle.group_world.specs.Member.{Member}
 use Rattle.group_progress.specs.GoingOn.{Reaches, ReachesWithin}
+use Rattle.group_progress.specs.Below.{EventLaws}
 use Rattle.group_progress.proofs.Within
 use Rattle.group_progress.proofs.Within.{within}
-use Rattle.group_progress.proofs.Going.{Did, Good, EventLaws, can_campaign, can_hear, can_start, can_tick, stay, then}
+use Rattle.group_progress.proofs.Going.{Did, Good, can_campaign, can_hear, can_start, can_tick, stay, then}
 
 -- ---- nodes
 

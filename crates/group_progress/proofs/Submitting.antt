@@ -28,10 +28,11 @@ use Rattle.group_protocol.specs.Ranges.{IsOwnProposer}
 use Rattle.group_protocol.specs.Tick.{ticked}
 use Rattle.group_world.specs.Group.{World}
 use Rattle.group_world.proofs.WorldAsGroup.{running}
+use Rattle.group_progress.specs.Below.{Laws}
 use Rattle.group_progress.proofs.Above.{Covers}
 use Rattle.group_progress.proofs.Common.{Common, Setting}
 use Rattle.group_progress.proofs.Learners.{count_within}
-use Rattle.group_progress.proofs.Learning.{Laws, Lead}
+use Rattle.group_progress.proofs.Learning.{Lead}
 use Rattle.group_progress.proofs.Pumps.{offers, rests}
 
 -- ---- the majority
@@ -88,9 +89,6 @@ submit_offers n j p v e covered none room new =
     record { proposer = o.proposer; learner = o.learner; offered = o.offered; kept = o.kept }
 
 -- ---- new keys
-
-pub record KnownLaws : Type 0 where
-  pub has : (keys : List Key) (k : Key) → IsTrue (has_key keys k) → Contains keys k
 
 not_all_known : (n : Known) (k : Key) (keys : List Key) → is_known_key n k ≡ false → are_known n (k ∷ keys) ≡ false
 not_all_known n k keys e = and_left (is_known_key n k) (list_all (is_known_key n) keys) e

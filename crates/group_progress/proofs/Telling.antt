@@ -24,12 +24,13 @@ use Rattle.paxos_proposer.specs.declared.proposer.TheConstants.{MOST_PUMPED}
 use Rattle.group_protocol.specs.declared.limits.TheConstants.{MOST_TOLD}
 use Rattle.group_world.specs.Group.{World}
 use Rattle.group_progress.specs.GoingOn.{ReachesWithin}
+use Rattle.group_progress.specs.Below.{Laws}
 use Rattle.group_progress.proofs.Within.{stay, then, within}
 use Rattle.group_progress.proofs.KeysKept.{Shrinks, shrink_after, shrink_ticked}
 use Rattle.group_progress.proofs.Learners.{told}
 use Rattle.group_progress.proofs.Steps.{Has, Step, each_within, hears, still, ticks, turn_more}
 use Rattle.group_progress.proofs.Common.{Common, Follows, IsOf, Setting, common_after, one_known, sends_new}
-use Rattle.group_progress.proofs.Learning.{Laws, Lead, lead_kept}
+use Rattle.group_progress.proofs.Learning.{Lead, lead_kept}
 
 -- ---- packets
 

@@ -29,25 +29,19 @@ use Rattle.group_world.specs.Member.{Member}
 use Rattle.group_progress.specs.GoingOn.{AllHaveRead}
 use Rattle.group_progress.specs.Fair.{Endless, IsFair, IsLed, Later}
 use Rattle.group_world.proofs.WorldAsGroup.{changed_here, running}
-use Rattle.group_progress.proofs.Acceptors.{TestLaws}
+use Rattle.group_progress.specs.Below.{EventLaws, TestLaws, KeyLaws, TellLaws, ReadLaws}
 use Rattle.group_progress.proofs.Calm.{IsSteady, UpWith, made_leaves}
 use Rattle.group_progress.proofs.Covered.{at_more, fits_heard, known_of}
-use Rattle.group_progress.proofs.Going.{EventLaws, Good, fits_me}
+use Rattle.group_progress.proofs.Going.{Good, fits_me}
 use Rattle.group_progress.proofs.Hearing.{hears_it, made_sends, sends_it}
 use Rattle.group_progress.proofs.Learners.{told}
 use Rattle.group_rules.proofs.Lists.{in_from_place}
 use Rattle.group_progress.proofs.Promising.{all_low, stays, ticks_at}
 use Rattle.group_progress.proofs.Runs.{AtWith, good_at}
-use Rattle.group_progress.proofs.KeysKept.{KeyLaws}
-use Rattle.group_progress.proofs.Reading.{HasKey, ReadLaws, has_learned, prefix_by}
+use Rattle.group_progress.proofs.Reading.{HasKey, has_learned, prefix_by}
 use Rattle.group_progress.proofs.Steps.{Has}
 use Rattle.group_progress.proofs.Stages.{Stays, all_later, from_then, later_then, now}
 use Rattle.group_progress.proofs.Telling.{asks_front, some_at, tells, tick_keeps, tick_sends}
-
-pub record TellLaws : Type 0 where
-  pub front : (l : Learner) → IsFront l.learned (front_of l.learned)
-  pub rises : (old new : Learner) → HasLearnedMore old.learned new.learned → front_of old.learned ≤ front_of new.learned
-  pub message : (n : Known) (j : ℕ) (body : Body) → HasLearnedMore n.learner.learned (on_message n j body).node.learner.learned
 
 abbrev pub IsFar : ℕ → Known → Type 0
 IsFar c n = c ≤ front n

@@ -20,21 +20,16 @@ use Rattle.group_protocol.specs.Protocol.{on_message}
 use Rattle.group_protocol.specs.ProposerResponses.{is_known, is_known_key, offer_after, offering, submitted}
 use Rattle.group_protocol.specs.Pump.{pump}
 use Rattle.group_protocol.specs.WaitingKeys.{waiting_keys}
+use Rattle.group_progress.specs.Below.{TestLaws, KeyLaws, WaitLaws}
 use Rattle.group_progress.proofs.Unread.{IsFirstUnread}
-use Rattle.group_progress.proofs.Acceptors.{TestLaws}
 use Rattle.group_progress.proofs.Calm.{IsSteady}
-use Rattle.group_progress.proofs.KeysKept.{KeyLaws, Shrinks, read_on, shrink_after, shrink_ticked}
+use Rattle.group_progress.proofs.KeysKept.{Shrinks, read_on, shrink_after, shrink_ticked}
 use Rattle.group_progress.proofs.Lasting.{IsNextAbove, LeadsWith, after_ballot, after_lasts, next_lasts}
 use Rattle.group_progress.proofs.Leading.{pump_same}
 use Rattle.group_progress.proofs.Reading.{HasKey}
 use Rattle.group_progress.proofs.Rising.{pump_up}
 use Rattle.group_progress.proofs.Submitting.{new_value, submit_offers}
 use Rattle.group_progress.proofs.Telling.{tick_keeps}
-
--- the laws of keys that wait
-pub record WaitLaws : Type 0 where
-  pub keys : KeyLaws
-  pub typed : (n : Known) (byte : ℕ) → waiting_keys (on_typed n byte).node ≡ waiting_keys n ++ keys_of (new_key n byte)
 
 -- ---- what stays of the keys that waited
 

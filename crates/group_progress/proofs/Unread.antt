@@ -20,6 +20,7 @@ use Rattle.group_world.specs.Group.{IsUp, me_of, up_of, World, world_state}
 use Rattle.group_world.specs.Member.{Member}
 use Rattle.group_world.specs.Sound.{Holds}
 use Rattle.group_world.proofs.WorldAsGroup.{running}
+use Rattle.group_progress.specs.Below.{UnreadLaws}
 use Rattle.group_progress.proofs.NodesStay.{OfCall, OfWorld, deed_keeps}
 
 -- the first of the waiting keys, if one waits, is not read
@@ -37,13 +38,6 @@ IsUnreadAt n = IsFirstUnread (read_of n) (waiting_keys n)
 -- the same of each node that is up
 abbrev pub AreUnread : World → Type 0
 AreUnread = OfWorld IsUnreadAt
-
--- the laws of the waiting keys, and of the next one
-pub record UnreadLaws : Type 0 where
-  pub first : (n : Known) (k : Key) (ks : List Key) → waiting_keys (without_read n) ≡ k ∷ ks → ¬ Contains (read_of n) k
-  pub typed : (n : Known) (byte : ℕ) → waiting_keys (on_typed n byte).node ≡ waiting_keys n ++ keys_of (new_key n byte)
-  pub new : (w : WorldState) (i : ℕ) (u : Up) (key : Key) → HoldsByRules w → (w.seats i).up ≡ Some u
-      → IsNextKey i (w.seats i).kept u key → ¬ Contains (keys_in_order (front_values u.learned)) key
 
 first_by : (read keys : List Key) → ((k : Key) (ks : List Key) → keys ≡ k ∷ ks → ¬ Contains read k) → IsFirstUnread read keys
 first_by read [] h = tt

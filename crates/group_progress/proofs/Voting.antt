@@ -31,13 +31,14 @@ use Rattle.group_world.specs.Event.{DoesAt}
 use Rattle.group_world.specs.Group.{IsUp, World, world_state}
 use Rattle.group_progress.specs.Fair.{Endless, IsFair, IsLed, Later}
 use Rattle.group_world.proofs.WorldAsGroup.{changed_here, running}
+use Rattle.group_progress.specs.Below.{EventLaws, TestLaws, TellLaws}
 use Rattle.group_progress.proofs.Above.{none_proposed}
-use Rattle.group_progress.proofs.Acceptors.{TestLaws, votes_for}
+use Rattle.group_progress.proofs.Acceptors.{votes_for}
 use Rattle.group_progress.proofs.Calm.{UpWith, made_leaves}
 use Rattle.group_progress.proofs.Chasing.{proposed_in}
 use Rattle.group_progress.proofs.Counting.{IsCountedBy, counts_steady}
 use Rattle.group_progress.proofs.Covered.{at_more, fits_heard, known_of}
-use Rattle.group_progress.proofs.Going.{EventLaws, Good, fits_me}
+use Rattle.group_progress.proofs.Going.{Good, fits_me}
 use Rattle.group_progress.proofs.Hearing.{hears_it, made_sends, sends_it}
 use Rattle.group_progress.proofs.Lasting.{HasProposal, IsFirst, IsNextAbove, LeadsWith, first_lasts, leads_more, leads_of, next_lasts, proposal_lasts}
 use Rattle.group_progress.proofs.Learners.{hears_accepted, learned_by}
@@ -47,7 +48,7 @@ use Rattle.group_progress.proofs.Promising.{Agreed, agreed_steady, all_low, all_
 use Rattle.group_progress.proofs.Runs.{AtWith, good_at, group_at}
 use Rattle.group_progress.proofs.Stages.{Stays, all_later, from_then, later_then, now}
 use Rattle.group_progress.proofs.Telling.{some_at}
-use Rattle.group_progress.proofs.Told.{IsFar, TellLaws, far_steady}
+use Rattle.group_progress.proofs.Told.{IsFar, far_steady}
 
 -- ---- the Accept that is sent again
 

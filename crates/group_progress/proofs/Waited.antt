@@ -30,15 +30,15 @@ use Rattle.group_world.specs.declared.event.Act.TheVariants as act
 use Rattle.group_world.specs.Event.{DoesAt}
 use Rattle.group_world.specs.Group.{IsUp, member_at, World, world_state}
 use Rattle.group_world.specs.Member.{Member}
+use Rattle.group_progress.specs.Below.{EventLaws, TestLaws, TellLaws, FairLaws}
 use Rattle.group_progress.proofs.Unread.{IsUnreadAt}
 use Rattle.group_progress.specs.GoingOn.{AllHaveRead, HasRead, waiting_at, keys_waiting, waiting_of}
 use Rattle.group_progress.specs.Fair.{AllIsRead, Endless, IsFair, IsLed, Later}
 use Rattle.group_world.proofs.WorldAsGroup.{changed_here, running}
 use Rattle.group_progress.proofs.Calm.{IsSteady, UpWith, made_leaves}
 use Rattle.group_progress.proofs.Covered.{IsCoveredBy, at_more, covered_stays, known_of}
-use Rattle.group_progress.proofs.Cycle.{MoreLaws, first_batch}
-use Rattle.group_progress.proofs.Acceptors.{TestLaws}
-use Rattle.group_progress.proofs.Going.{EventLaws, Good, fits_me}
+use Rattle.group_progress.proofs.Cycle.{first_batch}
+use Rattle.group_progress.proofs.Going.{Good, fits_me}
 use Rattle.group_progress.proofs.Hearing.{hears_it, made_sends, sends_it}
 use Rattle.group_progress.proofs.Lasting.{AreProposed, HasProposal, IsKeptOrProposed, IsNextAbove, LeadsWith, next_lasts, proposal_lasts, proposed_lasts}
 use Rattle.group_progress.proofs.Moments.{LeadsAt, first_keeps, leads_stay, one_running, opened}
@@ -49,15 +49,9 @@ use Rattle.group_progress.proofs.Rising.{backed_at, covered_is, covered_later, l
 use Rattle.group_progress.proofs.Runs.{AtWith, good_at, group_at}
 use Rattle.group_progress.proofs.Stages.{Stays, all_later, from_then, later_then, now}
 use Rattle.group_progress.proofs.Telling.{some_at, tick_keeps, tick_sends}
-use Rattle.group_progress.proofs.Told.{IsFar, TellLaws, all_read}
-use Rattle.group_progress.proofs.Turns.{AreRead, Begins, WaitLaws, begins_steady, read_push, read_steady, submit_up, turn_of}
+use Rattle.group_progress.proofs.Told.{IsFar, all_read}
+use Rattle.group_progress.proofs.Turns.{AreRead, Begins, begins_steady, read_push, read_steady, submit_up, turn_of}
 use Rattle.group_progress.proofs.Voting.{front_reaches, leader_far_stays, proposed_below}
-
--- the laws that the stages of a fair run take
-pub record FairLaws : Type 0 where
-  pub more : MoreLaws
-  pub few : (learned : FinMap nat_cmp Value) → AreInWindow learned → front_of learned ≤ PLACES
-  pub wait : WaitLaws
 
 -- a value is learned at a place
 abbrev pub HasLearnedAt : ℕ → Value → Known → Type 0

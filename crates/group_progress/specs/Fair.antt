@@ -48,9 +48,9 @@ Later n P = (t : ℕ) × (n ≤ t) × P t
 
 -- ---- one node leads
 
--- Bodies that end or pass by the ballot: a Prepare above it, and a Refused of it.
--- Allows: an Accept of any ballot. None above this one is sent, while no node of a majority hears
--- such a Prepare.
+-- Bodies that may end the lead under the ballot: a Prepare above it, and a Refused that answers it.
+-- Forbids: an Accept, of any ballot. As long as no node of the majority hears such a Prepare, no
+-- Accept above the ballot is sent.
 abbrev pub Outranks : Ballot → Body → Type 0
 Outranks b (Prepare c from) = IsBelow b c
 Outranks b (Refused c promised) = c ≡ b
@@ -73,8 +73,10 @@ pub record IsCalm (members : ℕ → Bool) (b : Ballot) (w : World) (e : Event) 
   pub kept : IsTrue (members (node_of e.act)) → e.save ≡ Kept
   pub calm : IsTrue (members (node_of e.act)) → IsCalmAct b (world_state w).sent e.act
 
--- The first event is a campaign of this node of the majority, whose nodes are up and have promised
--- nothing above its ballot. From then on all is calm, and no Accept of the last place is ever sent.
+-- The first event is a campaign of this node, which happens, and whose save, if any, is kept. It is
+-- one of these nodes, which are all up and have promised nothing above its ballot. From then on all
+-- is calm. That these nodes are a majority is a premise of the laws. No Accept of the last place is
+-- ever sent, nor was one before.
 pub record IsLed (members : ℕ → Bool) (leader : ℕ) (b : Ballot) {w : World}
     (run : Endless w) : Type 0 where
   pub node : IsNode w.group.size leader
@@ -96,8 +98,10 @@ abbrev pub IsAddressedTo : ℕ → To → Type 0
 IsAddressedTo i All = Unit {0}
 IsAddressedTo i (One j) = j ≡ i
 
--- A message of a node of the majority to node `i`, sent in this run: its number at this moment.
-pub record IsOnItsWay (members : ℕ → Bool) {w : World} (run : Endless w) (n k i : ℕ)
+-- Message `k` is `m`, from a node of the majority to node `i`, and was sent in this run before
+-- moment `n`.
+-- Allows: a message that was heard already.
+pub record WasSentTo (members : ℕ → Bool) {w : World} (run : Endless w) (n k i : ℕ)
     (m : Msg) : Type 0 where
   pub datagram : Datagram
   pub there : slice_get (run.world n).sent k ≡ Some datagram
@@ -106,14 +110,20 @@ pub record IsOnItsWay (members : ℕ → Bool) {w : World} (run : Endless w) (n 
   pub sender : IsTrue (members m.sender)
   pub late : length w.sent ≤ k
 
+-- Event `n` sends this message.
+pub record IsSentAt (members : ℕ → Bool) {w : World} (run : Endless w) (n k i : ℕ)
+    (m : Msg) : Type 0 where
+  pub sent : WasSentTo members run (suc n) k i m
+  pub new : length (run.world n).sent ≤ k
+
 -- Each node of the majority ticks again and again, and hears each message that one of them sends to
--- it.
+-- it, at least once after it was sent.
 -- Allows: loss of all other messages, and of all that was sent before; any order; doubles.
 pub record IsFair (members : ℕ → Bool) {w : World} (run : Endless w) : Type 0 where
   pub ticks : (n i : ℕ) → IsNode w.group.size i → IsTrue (members i)
       → Later n (λ t. (run.event t).act ≡ Tick i)
   pub hears : (n k i : ℕ) (m : Msg) → IsNode w.group.size i → IsTrue (members i)
-      → IsOnItsWay members run n k i m → Later n (λ t. (run.event t).act ≡ Deliver k i)
+      → IsSentAt members run n k i m → Later (suc n) (λ t. (run.event t).act ≡ Deliver k i)
 
 -- ---- what is reached
 
@@ -199,11 +209,12 @@ pub record HasFairRun (p : Parts) (group : Group) : Type 0 where
 
 -- ---- the claim
 
--- Each fair run under a leading node goes on. Each key that waits at a node of the majority is read
--- by each of them, and each byte that the program writes on what a node has read is shown there.
+-- Each run that is led and fair goes on. Each key that waits at a node of the majority is read by
+-- each of them. If one of them runs and releases again and again, each byte that the program writes
+-- on what it has read is shown there.
 -- Source: Simple 2.4, progress.
 -- Allows: keys that are typed at any moment; other nodes that do anything.
--- Forbids: a fair run in which a key waits for ever.
+-- Forbids: a run that is led and fair, in which a key waits for ever.
 abbrev pub FairRunsGoOn : Parts → Group → Type 0
 FairRunsGoOn p group =
     (events : List Event) (w : World) (members : ℕ → Bool) (leader : ℕ) (b : Ballot)

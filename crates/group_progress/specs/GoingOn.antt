@@ -32,7 +32,8 @@ IsHelpful sent (Press i byte) = ⊥
 IsHelpful sent (Crash i) = ⊥
 IsHelpful sent _ = Unit {0}
 
--- An event of one of these nodes, whose save is kept, after so many messages were sent.
+-- An event of one of these nodes, whose save is kept: no crash, no typed key, and no delivery of
+-- one of the first `sent` messages.
 pub record IsOwnEvent (members : ℕ → Bool) (sent : ℕ) (e : Event) : Type 0 where
   pub of_member : IsTrue (members (node_of e.act))
   pub kept : e.save ≡ Kept
@@ -60,7 +61,7 @@ abbrev pub messages_by : Act → ℕ
 messages_by (Deliver k i) = 1
 messages_by _ = 0
 
--- 1 for each act but those: a tick, a start, a campaign, a step of the machine.
+-- 1 for each act by which a node hears no message, and 0 for a delivery.
 abbrev pub ticks_by : Act → ℕ
 ticks_by (Deliver k i) = 0
 ticks_by _ = 1
@@ -74,8 +75,8 @@ messages_heard events = sum_by (λ e. messages_by e.act) events
 abbrev pub ticks_in : List Event → ℕ
 ticks_in events = sum_by (λ e. ticks_by e.act) events
 
--- The same by at most so many ticks, with starts and campaigns, and so many messages that are
--- heard.
+-- As `Reaches`, by at most so many events that hear nothing, such as ticks, and so many that hear a
+-- message.
 -- Forbids: one event more than both.
 pub record ReachesWithin (ticks messages : ℕ) (members : ℕ → Bool) (sent : ℕ) (w : World)
     (P : World → Type 0) : Type 0 where
@@ -124,9 +125,9 @@ pub record HasLeft (top : ℕ) (m : Member) : Type 0 where
   pub votes : (vote : Vote) → Contains m.kept.votes vote → vote.place < top
 
 -- What has to be left for these nodes to read so many keys: what each of them needs, and above all
--- of their votes a place for each of the keys.
+-- of their votes a place for each of the keys, the last place (65,535) not counted.
 -- Allows: a node that has never started; votes for any values.
--- Forbids: a vote at place 65,534 where a key waits.
+-- Forbids: a vote at place 65,534 if a key waits.
 pub record HaveLeftFor (keys : ℕ) (members : ℕ → Bool) (w : World) : Type 0 where
   pub top : ℕ
   pub room : top + keys < PLACES
@@ -152,8 +153,8 @@ HaveOpen k top members w =
     (i : ℕ) (m : Member) → IsTrue (members i) → member_at w.members i ≡ Some m
     → top ≤ learned_to m.node + k
 
--- The most batches that `w` keys make which wait at `n` nodes: one for each key, and no more than
--- one for each 32 keys, where the last batch of each node may lack 31.
+-- The most batches that `w` keys make which wait at `n` nodes: at most one for each key, and at
+-- most one for each 32, if each node's keys are rounded up to whole batches.
 abbrev pub most_batches : ℕ → ℕ → ℕ
 most_batches n w = min w ((w + n * (MOST_CHARACTERS - 1)) / MOST_CHARACTERS)
 
@@ -226,23 +227,23 @@ pub record ShowsBytes (bytes : List ℕ) (i : ℕ) (w : World) : Type 0 where
   pub there : member_at w.members i ≡ Some node
   pub shown : IsPrefix bytes node.console
 
--- Each of these nodes is up, and may show what its machine writes in so many steps on its learned
--- input.
+-- Each of these nodes that is up may show what the program writes on its learned input, in any
+-- number of steps below 2^64, by events of these nodes alone.
 abbrev pub AllMayShow : (ℕ → Bool) → World → Type 0
 AllMayShow members w =
     (i : ℕ) (m : Member) (q : Running) (n : ℕ) → IsTrue (members i) → IsUp w i m q
     → n ≤ 18446744073709551615
     → MayReach members w (ShowsBytes (out w.program (input q.known) n) i)
 
--- Node `i` is up and has read these keys, and its console begins with what the program writes in so
--- many steps on what the node has read.
+-- Node `i` is up and has read these keys, no key waits there, and its console begins with what the
+-- program writes in so many steps on what the node has read.
 pub record HasReadAndShown (keys : List Key) (steps : ℕ) (w : World) (i : ℕ) : Type 0 where
   pub caught_up : HasCaughtUp keys w i
   pub shown : IsPrefix (out w.program (input caught_up.has.running.known) steps)
       caught_up.has.node.console
 
--- Each of these nodes of a group of this size has read these keys, and shows what the program
--- writes in so many steps.
+-- Each of these nodes of a group of this size has read these keys, has none that wait, and shows
+-- what the program writes in so many steps.
 abbrev pub AllHaveReadAndShown : (ℕ → Bool) → ℕ → List Key → ℕ → World → Type 0
 AllHaveReadAndShown members size keys steps w =
     (i : ℕ) → IsNode size i → IsTrue (members i) → HasReadAndShown keys steps w i

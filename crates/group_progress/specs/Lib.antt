@@ -1,3 +1,4 @@
+pub mod Below
 pub mod GoingOn
 pub mod Processes
 pub mod Fair

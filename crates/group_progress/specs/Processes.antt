@@ -14,7 +14,7 @@ IsHelpfulDeed (Press byte) = ⊥
 IsHelpfulDeed Crash = ⊥
 IsHelpfulDeed _ = Unit {0}
 
--- An entry of the process of one of these nodes, whose save is kept.
+-- An entry of the process of one of these nodes, whose save is kept: no crash and no typed byte.
 pub record IsOwnEntry (members : ℕ → Bool) (e : Entry) : Type 0 where
   pub of_member : IsTrue (members e.node)
   pub kept : e.save ≡ Kept

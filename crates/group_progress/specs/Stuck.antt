@@ -22,22 +22,22 @@ use Rattle.group_world.specs.Event.{LeadsBy, kept_event, node_of}
 use Rattle.group_world.specs.Group.{HasUp, IsUp, member_at, new_world, World, world_state}
 use Rattle.group_world.specs.Member.{Member}
 use Rattle.group_progress.specs.GoingOn.{HasRead, keys_waiting}
-use Rattle.group_progress.specs.Fair.{Endless, IsFair, IsLed, IsOnItsWay, Later}
+use Rattle.group_progress.specs.Fair.{Endless, IsFair, IsLed, Later, WasSentTo}
 
--- Each node of the majority hears each message that one of them sends to it.
+-- Each node of the majority hears each message that one of them sends to it, again and again.
 -- Allows: a run in which nobody ticks.
 pub record HearsAll (members : ℕ → Bool) (w : World) (run : Endless w) : Type 0 where
   pub hears : (n k i : ℕ) (m : Msg) → IsNode w.group.size i → IsTrue (members i)
-      → IsOnItsWay members run n k i m → Later n (λ t. (run.event t).act ≡ Deliver k i)
+      → WasSentTo members run n k i m → Later n (λ t. (run.event t).act ≡ Deliver k i)
 
 -- Each node of the majority ticks again and again, and hears each message that one of them sends to
--- it, but for Submits.
+-- it again and again, but for Submits.
 -- Allows: a run in which no Submit is ever heard.
 pub record HearsAllButSubmits (members : ℕ → Bool) (w : World) (run : Endless w) : Type 0 where
   pub ticks : (n i : ℕ) → IsNode w.group.size i → IsTrue (members i)
       → Later n (λ t. (run.event t).act ≡ Tick i)
   pub hears : (n k i : ℕ) (m : Msg) → IsNode w.group.size i → IsTrue (members i)
-      → IsOnItsWay members run n k i m → ((v : Value) → m.body ≢ Submit v)
+      → WasSentTo members run n k i m → ((v : Value) → m.body ≢ Submit v)
       → Later n (λ t. (run.event t).act ≡ Deliver k i)
 
 -- Acts of a node of the majority while one node leads, where any message may be heard.
@@ -72,9 +72,11 @@ pub record IsLedOpenly (members : ℕ → Bool) (leader : ℕ) (b : Ballot) (w :
 abbrev pub IsLedCalmly : (ℕ → Bool) → ℕ → Ballot → (w : World) → Endless w → Type 0
 IsLedCalmly members leader b w run = IsLed members leader b run
 
--- The claim that a run is fair, with its world given.
-abbrev pub HearsAndTicks : (ℕ → Bool) → (w : World) → Endless w → Type 0
-HearsAndTicks members w run = IsFair members run
+-- The run is fair, and each node of the majority hears each message that one of them sends to it
+-- not once alone, but again and again.
+pub record HearsAndTicks (members : ℕ → Bool) (w : World) (run : Endless w) : Type 0 where
+  pub fair : IsFair members run
+  pub hears : HearsAll members w run
 
 -- A run from a world that is reached, of which these two hold. A key waits at a node of the
 -- majority before it, and no node of the majority ever reads that key.
@@ -91,7 +93,7 @@ pub record HasStuckRun (Led : (ℕ → Bool) → ℕ → Ballot → (w : World) 
   pub leads : LeadsBy (new_world p group) events world
   pub majority : IsMajority world.group.size members
   pub led : Led members leader ballot world run
-  pub fair : Hears members world run
+  pub heard : Hears members world run
   pub key : Key
   pub waits : Contains (keys_waiting members world) key
   pub unread : (t i : ℕ) → IsTrue (members i) → ¬ HasRead (key ∷ []) (run.world t) i

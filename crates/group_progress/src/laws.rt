@@ -24,27 +24,16 @@ ghost use Rattle.group_world.specs.Processes.{Entry, IsLog, after_log};
 ghost use Rattle.group_progress.specs.GoingOn.{AllHaveCaughtUp, AllHaveReadAndShown, AllTakeKeys, AllMayShow, HaveLeft, HaveLeftFor, HaveOpen, MayReach, MayReachWithin, keys_waiting, most_messages, most_ticks};
 ghost use Rattle.group_progress.specs.Processes.{ProcessesMayReach};
 
+mod below;
 mod fair;
 
+use below::what_lies_below;
 pub use fair::{
     fair_runs_are_led, fair_runs_catch_up, fair_runs_go_on, fair_runs_learn, fair_runs_need_peace,
     fair_runs_need_submits, fair_runs_need_ticks, fair_runs_promise, fair_runs_propose,
     fair_runs_read, fair_runs_show, some_run_is_fair,
 };
-use group_protocol::laws::{
-    calls_keep_what_is_learned, waiting_keys_are_a_row, what_goes_out_fits,
-};
-use group_rules::laws::{claims_follow, next_keys_are_new};
-use group_world::laws::{
-    deeds_keep_it_sound, deeds_keep_what_holds, events_are_processes, processes_are_events,
-};
-use paxos_learner::laws::{
-    input_grows, key_tests_are_exact, keys_are_read_once, learned_stays, one_front,
-    values_are_learned,
-};
-use paxos_msg::grammar::spelling_is_read;
-use paxos_msg::laws::tests_are_exact;
-use pcode_machine::laws::{output_only_grows, prefixes_are_ordered};
+use group_world::laws::{events_are_processes, processes_are_events};
 
 /// All that waits is read within so many ticks and messages. From each world that is reached,
 /// events of the nodes of a majority, at most so many, lead to one in which each of them is up and
@@ -61,20 +50,7 @@ pub fn all_is_read_within()
         (most_messages w.group.size k (length (keys_waiting members w))) members w
         (AllHaveCaughtUp members w.group.size (keys_waiting members w)) }
 {
-    deeds_keep_what_holds();
-    claims_follow();
-    next_keys_are_new();
-    what_goes_out_fits();
-    waiting_keys_are_a_row();
-    calls_keep_what_is_learned();
-    input_grows();
-    key_tests_are_exact();
-    keys_are_read_once();
-    learned_stays();
-    one_front();
-    values_are_learned();
-    spelling_is_read();
-    tests_are_exact();
+    what_lies_below();
 }
 
 /// No world is stuck. Whatever has happened to a group, and whatever is lost of what is on its
@@ -90,8 +66,9 @@ pub fn no_world_is_stuck()
     all_is_read_within();
 }
 
-/// A key that is typed now at a node of the majority, if fewer than 256 wait there and a serial is
-/// left, is read by each of its nodes after more events of theirs.
+/// A key that is typed now at a node of the majority can be read by each of its nodes, by events of
+/// theirs alone, if fewer than 256 wait there, a serial is left, and starts, rounds, and places for
+/// the key and for all that wait are left (`HaveLeftFor`).
 pub fn a_typed_key_is_read()
     ensures { (p : Parts) (group : Group) (events : List Event) (w : World) (members : ℕ → Bool)
         (i byte : ℕ) (m : Member) (q : Running) → IsSize group.size → IsGroup group
@@ -104,13 +81,13 @@ pub fn a_typed_key_is_read()
         (AllHaveCaughtUp members w.group.size (keys_of (new_key q.known byte))) }
 {
     no_world_is_stuck();
-    deeds_keep_it_sound();
-    waiting_keys_are_a_row();
+    what_lies_below();
 }
 
-/// No node stays full. Where 256 keys wait at a node of the majority, so that it refuses a typed
-/// byte, events of these nodes lead to a world in which none of them refuses one for that. A full
-/// outbox refuses no deed: what a deed sends is handed out before the next one.
+/// No node stays full, unless numbers are spent. If 256 keys wait at a node of the majority, so
+/// that it refuses a typed byte, events of these nodes lead to a world in which none of them
+/// refuses one for that. A full outbox refuses no deed: what a deed sends is handed out before the
+/// next one.
 pub fn no_node_stays_full()
     ensures keys { (p : Parts) (group : Group) (events : List Event) (w : World)
         (members : ℕ → Bool) → IsSize group.size → IsGroup group
@@ -123,25 +100,18 @@ pub fn no_node_stays_full()
 }
 
 /// No console is stuck. In each world that is reached, a node that is up can show, by itself, all
-/// that the program writes in any number of steps that can be counted on what the node has
-/// learned.
+/// that the program writes on what the node has learned, in any number of steps below 2^64.
 pub fn no_console_is_stuck()
     ensures { (p : Parts) (group : Group) (events : List Event) (w : World) (members : ℕ → Bool)
         → IsSize group.size → IsGroup group → LeadsBy (new_world p group) events w
         → AllMayShow members w }
 {
-    deeds_keep_what_holds();
-    claims_follow();
-    next_keys_are_new();
-    what_goes_out_fits();
-    waiting_keys_are_a_row();
-    output_only_grows();
-    prefixes_are_ordered();
-    spelling_is_read();
+    what_lies_below();
 }
 
 /// From each world that is reached the nodes of a majority can read all keys that wait at them,
-/// and then each show what the program writes in so many steps on what it has read.
+/// and then each show what the program writes in so many steps on what it has read, unless their
+/// numbers are spent.
 pub fn all_is_read_and_shown()
     ensures { (p : Parts) (group : Group) (events : List Event) (w : World) (members : ℕ → Bool)
         (steps : ℕ) → IsSize group.size → IsGroup group → LeadsBy (new_world p group) events w
@@ -150,20 +120,13 @@ pub fn all_is_read_and_shown()
         (AllHaveReadAndShown members w.group.size (keys_waiting members w) steps) }
 {
     no_world_is_stuck();
-    deeds_keep_what_holds();
-    claims_follow();
-    next_keys_are_new();
-    what_goes_out_fits();
-    waiting_keys_are_a_row();
-    output_only_grows();
-    prefixes_are_ordered();
-    spelling_is_read();
+    what_lies_below();
 }
 
 /// No group of processes is stuck. Whatever its processes have done, and whatever is lost of what
-/// is on its way, deeds of the processes of each majority lead to a longer log, unless their
-/// numbers are spent: those that are down start over their records, and then each reads what was
-/// typed and waits at one of them, and releases what the program writes on it in so many steps.
+/// is on its way, further deeds of the processes of each majority, unless their numbers are spent,
+/// lead to a group in which each of them is up, has read each key that waited at one of them, and
+/// its console begins with what the program writes in so many steps on all that it has read.
 pub fn no_group_is_stuck()
     ensures { (p : Parts) (group : Group) (log : List Entry) (now : List Member)
         (members : ℕ → Bool) (steps : ℕ) → IsSize group.size → IsGroup group
@@ -178,7 +141,7 @@ pub fn no_group_is_stuck()
     events_are_processes();
 }
 
-/// The premise of these laws is met before all events, whichever nodes are meant.
+/// Starts, rounds and places are left (`HaveLeft`) before all events, whichever nodes are meant.
 pub fn all_is_left_at_first()
     ensures { (p : Parts) (group : Group) (members : ℕ → Bool) → IsSize group.size
         → HaveLeft members (new_world p group) }

@@ -151,7 +151,7 @@ pub record Steps (w : WorldState) (d : NodeDeed) (v : WorldState) : Type 0 where
   pub step : WorldStep w d.node d.deed v
 
 -- a group to which deeds lead
-pub record Reaches (w : WorldState) (deeds : List NodeDeed) : Type 0 where
+pub record Reached (w : WorldState) (deeds : List NodeDeed) : Type 0 where
   pub end : WorldState
   pub leads : LeadsByRules w deeds end
 
@@ -166,10 +166,10 @@ unfolding LeadsUnder
 leads_nowhere w = refl
 
 infixr 30 ◌▸◌
-abbrev pub ◌▸◌ : {w mid : WorldState} {d : NodeDeed} {deeds : List NodeDeed} → Steps w d mid → Reaches mid deeds → Reaches w (d ∷ deeds)
+abbrev pub ◌▸◌ : {w mid : WorldState} {d : NodeDeed} {deeds : List NodeDeed} → Steps w d mid → Reached mid deeds → Reached w (d ∷ deeds)
 ◌▸◌ {w} {mid} {d} {deeds} first rest = record { end = rest.end; leads = leads_on w mid rest.end d deeds first.step rest.leads }
 
-abbrev pub stop : {w : WorldState} → Reaches w []
+abbrev pub stop : {w : WorldState} → Reached w []
 stop {w} = record { end = w; leads = leads_nowhere w }
 
 pub leads_then : (w v u : WorldState) (deeds more : List NodeDeed) → LeadsByRules w deeds v → LeadsByRules v more u
@@ -178,8 +178,8 @@ unfolding LeadsUnder
 leads_then w v u [] more same later = rw same at later
 leads_then w v u (d ∷ deeds) more (mid, step, rest) later = (mid, step, leads_then mid v u deeds more rest later)
 
-abbrev pub and_then : {w : WorldState} {deeds more : List NodeDeed} (first : Reaches w deeds) → Reaches first.end more
-    → Reaches w (deeds ++ more)
+abbrev pub and_then : {w : WorldState} {deeds more : List NodeDeed} (first : Reached w deeds) → Reached first.end more
+    → Reached w (deeds ++ more)
 and_then {w} {deeds} {more} first rest =
     record { end = rest.end; leads = leads_then w first.end rest.end deeds more first.leads rest.leads }
 

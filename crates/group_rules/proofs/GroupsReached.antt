@@ -2,34 +2,36 @@
 -- second ballot takes over a vote of the first; keys of two starts of one node are chosen; a node
 -- that starts again releases a byte again.
 use Rattle.std.proofs.lemmas.Bool.Decides.{nat_tests}
-use Rattle.std.proofs.Common.{length, ◌==◌, ◌≡◌, ℕ, suc, if◌then◌else◌, [], ◌∷◌, drop, Option, IfSome, Some, None, inl, inr, refl, arith, lit<, ◌++◌, ◌∙◌, nat_cmp, eq-eqb}
+use Rattle.std.proofs.Common.{length, ◌==◌, ◌≡◌, ℕ, suc, if◌then◌else◌, [], ◌∷◌, drop, Option, IfSome, Some, None, inl, inr, refl, arith, lit<, ◌++◌, ◌∙◌, nat_cmp, eq-eqb, ◌<◌, List}
 use Rattle.std.specs.FinMap.{empty, get-empty, insert}
 use Rattle.pcode_file.specs.Parts.{Parts}
 use Rattle.paxos_msg.specs.declared.ballot.Ballot.{Ballot}
 use Rattle.paxos_msg.specs.declared.message.Body.TheVariants.{Promise, Accepted, Submit}
 use Rattle.paxos_msg.specs.declared.record.Change.TheVariants as change
 use Rattle.paxos_msg.specs.Ballots.{IsAtMost}
-use Rattle.paxos_msg.specs.Batches.{IsSafe, Sent, Vote}
+use Rattle.paxos_msg.specs.Batches.{IsSafe, Sent, Vote, IsTyped}
 use Rattle.paxos_msg.specs.Chosen.{is_listed, IsChosenBy}
 use Rattle.paxos_msg.specs.Messages.{IsSent, IsPromised}
 use Rattle.paxos_learner.proofs.OnePlace.{get_here, get_put}
 use Rattle.group_rules.specs.Claims.{HasLearned}
-use Rattle.group_rules.specs.Rules.{Up, WorldState, fresh, WorldStep, after_release, with_seat}
+use Rattle.group_rules.specs.Rules.{Up, WorldState, fresh, WorldStep, after_release, with_seat, Seat}
 use Rattle.group_rules.specs.WrongSteps.{ballot_by}
 use Rattle.group_rules.specs.Leads.{LeadsByRules}
-use Rattle.group_rules.specs.Reachable.{opening_ballot, first_batch, propose_deeds, takeover_deeds, three_new, two_learn_deeds, two_show_deeds, one_new, second_batch, two_starts_deeds, restart_deeds, by, first_chosen_deeds, first_start_deeds, later_ballot}
-use Rattle.group_rules.proofs.ChainedSteps.{◌▸◌, Reaches, and_then, campaigns, hears, key_1, knowing, learns, presses, proposes, report, starts, stop, ticks, typed_by, typing, votes, StepLaw, releases, runs, crashes, released, promised, safe_at_first, submits_one}
+use Rattle.group_rules.specs.Reachable.{opening_ballot, first_batch, propose_deeds, takeover_deeds, three_new, two_learn_deeds, two_show_deeds, one_new, second_batch, two_starts_deeds, restart_deeds, by, first_chosen_deeds, first_start_deeds, later_ballot, first_kept}
+use Rattle.group_rules.proofs.ChainedSteps.{◌▸◌, Reached, and_then, campaigns, hears, key_1, knowing, learns, presses, proposes, report, starts, stop, ticks, typed_by, typing, votes, StepLaw, releases, runs, crashes, released, promised, safe_at_first, submits_one, still}
 use Rattle.group_rules.proofs.WrittenVotes.{are_chosen, at_listed, chosen_by, has_learned}
-use Rattle.pcode_machine.specs.Runs.{after_steps}
+use Rattle.pcode_machine.specs.Runs.{after_steps, IsPrefix}
 use Rattle.paxos_learner.specs.Input.{learned_input, keys_in_order}
 use Rattle.group_rules.specs.SmallPrograms.{echoes, letter_program}
 use Rattle.group_rules.proofs.SmallPrograms.{echoes_first, first_byte, writes_letter}
-use Rattle.paxos_msg.specs.Keys.{Key}
+use Rattle.paxos_msg.specs.Keys.{Key, keys_of}
 use Rattle.group_node.specs.Inputs.{AreChosen}
 use Rattle.group_rules.specs.Claims.{AreInOrder, serials_of}
 use Rattle.group_node.specs.declared.console.Offer.TheVariants.{Repeat}
 use Rattle.group_node.specs.Console.{offer_answer}
 use Rattle.group_node.specs.Deeds as deed
+use Rattle.group_rules.specs.WithoutRules.{chosen_later_deeds}
+use Rattle.paxos_msg.specs.declared.value.Value.{Value}
 
 -- ---- two nodes learn a value
 
@@ -39,7 +41,7 @@ waits p = typing (fresh p) (key_1 ∷ [])
 
 module _ (p : Parts) (place : ℕ) where
   -- both start, the key is typed, both promise, and node 1 proposes
-  abbrev first_8 : Reaches (three_new p) (propose_deeds place)
+  abbrev first_8 : Reached (three_new p) (propose_deeds place)
   first_8 =
       starts 1 refl
       ▸ starts 2 refl
@@ -58,7 +60,7 @@ module _ (p : Parts) (place : ℕ) where
       ▸ stop
 
   -- both vote, and hear of it
-  abbrev last_4 : Reaches first_8.end (drop 8 (two_learn_deeds place))
+  abbrev last_4 : Reached first_8.end (drop 8 (two_learn_deeds place))
   last_4 =
       votes 1 (waits p) refl 4 1 opening_ballot place first_batch refl refl (rw (eq-eqb place place refl) refl)
       ▸ votes 2 (fresh p) refl 4 1 opening_ballot place first_batch refl refl (rw (eq-eqb place place refl) refl)
@@ -66,7 +68,7 @@ module _ (p : Parts) (place : ℕ) where
       ▸ learns 2 (fresh p) refl 6 2 opening_ballot place first_batch refl (get-empty nat_cmp place) (1 ∷ 2 ∷ []) 5 (lit< tt) refl
       ▸ stop
 
-  abbrev both_learn : Reaches (three_new p) (two_learn_deeds place)
+  abbrev both_learn : Reached (three_new p) (two_learn_deeds place)
   both_learn = and_then first_8 last_4
 
   -- what both know then
@@ -112,7 +114,7 @@ safe_again sent second third = record {
 }
 
 module _ (p : Parts) where
-  abbrev taken_over : Reaches (first_8 p 700).end (drop 8 takeover_deeds)
+  abbrev taken_over : Reached (first_8 p 700).end (drop 8 takeover_deeds)
   taken_over =
       votes 2 (fresh p) refl 4 1 opening_ballot 700 first_batch refl refl refl
       ▸ starts 3 refl
@@ -131,7 +133,7 @@ pub takeover : (p : Parts) → (w : WorldState) × LeadsByRules (three_new p) ta
     × IsSent w.sent 2 (Accepted (ballot_by 1 1) 700 first_batch) × IsChosenBy 3 w.sent (ballot_by 3 2) 700 first_batch
     × HasLearned w 3 700 first_batch
 takeover p =
-    let run : Reaches (three_new p) takeover_deeds = and_then (first_8 p 700) (taken_over p) in
+    let run : Reached (three_new p) takeover_deeds = and_then (first_8 p 700) (taken_over p) in
     (_, run.leads, (5, lit< tt, refl), chosen_by run.end.sent (3 ∷ 2 ∷ []) 10 (lit< tt) refl, has_learned _ refl refl)
 
 -- ---- two nodes show the echo
@@ -141,7 +143,7 @@ abbrev ran : Parts → Up → Up
 ran p u = record u { configuration = after_steps p (learned_input u.learned) 10 }
 
 -- node 1 has run and shown the byte, and then node 2
-abbrev both_show : StepLaw → Reaches (three_new echoes) (two_learn_deeds 0 ++ two_show_deeds)
+abbrev both_show : StepLaw → Reached (three_new echoes) (two_learn_deeds 0 ++ two_show_deeds)
 both_show law =
     and_then (both_learn echoes 0) (
     runs 1 (knows_1 echoes 0) refl law echoes 10 refl refl (echoes_first 1 1).goes
@@ -171,44 +173,65 @@ module _ (p : Parts) where
   abbrev knows_first : Up
   knows_first = knowing up_2 0 first_batch
 
-  -- it chooses the first value
-  abbrev pub first_chosen : Reaches (one_new p) first_chosen_deeds
-  first_chosen =
+  -- it chooses the first value, by a promise for the places below this one
+  abbrev pub first_promised : (upto : ℕ) → 0 < upto → Reached (one_new p) first_chosen_deeds
+  first_promised upto some =
       starts 1 refl
       ▸ presses 1 (fresh p) refl key_1 refl refl refl
       ▸ campaigns 1 (waits p) refl 1 0 tt
-      ▸ hears 1 (waits p) refl 0 _ None (Promise opening_ballot 0 1 [] ∷ []) refl refl (inl refl) tt ((refl, report _ _ _ tt), tt)
+      ▸ hears 1 (waits p) refl 0 _ None (Promise opening_ballot 0 upto [] ∷ []) refl refl (inl refl) tt ((refl, report _ _ _ tt), tt)
       ▸ ticks 1 (waits p) refl (Submit first_batch ∷ []) (typed_by _ 1 1 1 65 [] ((0, lit< tt, refl), tt), tt)
       (submits_one _ first_batch (record { rest = []; whole = refl }))
       ▸ proposes 1 (waits p) refl 2 _ opening_ballot 0 first_batch refl refl refl refl (safe_at_first (1 ∷ []) (lit< tt)
-      (promised (1, lit< tt, refl) (omega arith) (omega arith), tt) (1, (2, lit< tt, refl)))
+      (promised (1, lit< tt, refl) (omega arith) some, tt) (1, (2, lit< tt, refl)))
       ▸ votes 1 (waits p) refl 3 1 opening_ballot 0 first_batch refl refl refl
       ▸ stop
 
+  abbrev pub first_chosen : Reached (one_new p) first_chosen_deeds
+  first_chosen = first_promised 1 (omega arith)
+
   -- it crashes, and starts again
-  abbrev pub first_crashed : Reaches (one_new p) (first_chosen_deeds ++ by 1 deed.Crash ∷ [])
+  abbrev pub first_crashed : Reached (one_new p) (first_chosen_deeds ++ by 1 deed.Crash ∷ [])
   first_crashed = and_then first_chosen (crashes 1 ▸ stop)
 
-  abbrev pub first_start : Reaches (one_new p) first_start_deeds
+  abbrev pub first_start : Reached (one_new p) first_start_deeds
   first_start = and_then first_crashed (starts 1 refl ▸ stop)
 
-  abbrev starts_twice : Reaches (one_new p) two_starts_deeds
+  -- it has chosen the first value, is up in its start of this number, and these keys were typed
+  abbrev pub chosen_before : (ℕ → Seat) → ℕ → Up → List Key → WorldState
+  chosen_before others start u typed = record {
+    program = p;
+    size = 1;
+    seats = λ j. if j == 1 then record { kept = record first_kept { starts = start }; console = []; up = Some u } else others j;
+    sent = first_chosen.end.sent;
+    typed = typed;
+  }
+
+  -- so it chooses a batch of those that wait, at place 1
+  abbrev pub chooses_later : (others : ℕ → Seat) (start : ℕ) (u : Up) (typed : List Key) (v : Value)
+      → IsTyped (((typed ++ []) ++ []) ++ []) 1 v
+      → IsPrefix (keys_of v) (((u.waiting ++ []) ++ []) ++ []) → Reached (chosen_before others start u typed) (chosen_later_deeds v)
+  chooses_later others start u typed v known begins =
+      campaigns 1 u refl 2 0 (inl (omega arith))
+      ▸ hears 1 (still u) refl 5 _ None (Promise later_ballot 0 2 (vote_at 0 ∷ []) ∷ []) refl refl (inl refl) tt
+      ((refl, report _ _ _ ((omega arith, omega arith), tt)), tt)
+      ▸ ticks 1 (still (still u)) refl (Submit v ∷ []) (known, tt) (submits_one _ v begins)
+      ▸ proposes 1 (still (still (still u))) refl 7 _ later_ballot 1 v refl refl refl refl (safe_at_first (1 ∷ []) (lit< tt)
+      (promised (6, lit< tt, refl) (omega arith) (omega arith), tt) (1, (7, lit< tt, refl)))
+      ▸ votes 1 (still (still (still (still u)))) refl 8 1 later_ballot 1 v refl refl refl
+      ▸ stop
+
+  abbrev starts_twice : Reached (one_new p) two_starts_deeds
   starts_twice =
       and_then first_start (
       presses 1 (fresh p) refl key_2 refl refl refl
-      ▸ campaigns 1 up_2 refl 2 0 (inl (omega arith))
-      ▸ hears 1 up_2 refl 5 _ None (Promise later_ballot 0 2 (vote_at 0 ∷ []) ∷ []) refl refl (inl refl) tt
-      ((refl, report _ _ _ ((omega arith, omega arith), tt)), tt)
-      ▸ ticks 1 up_2 refl (Submit second_batch ∷ []) (typed_by _ 1 2 1 66 [] ((1, lit< tt, refl), tt), tt)
-      (submits_one _ second_batch (record { rest = []; whole = refl }))
-      ▸ proposes 1 up_2 refl 7 _ later_ballot 1 second_batch refl refl refl refl (safe_at_first (1 ∷ []) (lit< tt)
-      (promised (6, lit< tt, refl) (omega arith) (omega arith), tt) (1, (7, lit< tt, refl)))
-      ▸ votes 1 up_2 refl 8 1 later_ballot 1 second_batch refl refl refl
-      ▸ learns 1 up_2 refl 4 1 opening_ballot 0 first_batch refl (get-empty nat_cmp 0) (1 ∷ []) 4 (lit< tt) refl
+      ▸ and_then (chooses_later _ 2 up_2 _ second_batch (typed_by _ 1 2 1 66 [] ((1, lit< tt, refl), tt))
+      (record { rest = []; whole = refl })) (
+      learns 1 up_2 refl 4 1 opening_ballot 0 first_batch refl (get-empty nat_cmp 0) (1 ∷ []) 4 (lit< tt) refl
       ▸ learns 1 knows_first refl 9 1 later_ballot 1 second_batch refl (get_put empty 0 first_batch 1 ∙ get-empty nat_cmp 1)
       (1 ∷ []) 9 (lit< tt) refl
       ▸ stop
-      )
+      ))
 
 pub two_starts : (p : Parts) → (w : WorldState) × LeadsByRules (one_new p) two_starts_deeds w
     × HasLearned w 1 0 first_batch × HasLearned w 1 1 second_batch
@@ -229,7 +252,7 @@ two_starts p =
 
 -- ---- a node releases again
 
-abbrev restarts : StepLaw → Reaches (three_new letter_program) restart_deeds
+abbrev restarts : StepLaw → Reached (three_new letter_program) restart_deeds
 restarts law =
     starts 1 refl
     ▸ runs 1 (fresh letter_program) refl law letter_program 10 refl refl (writes_letter _).goes

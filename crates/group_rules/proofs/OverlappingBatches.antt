@@ -12,7 +12,7 @@ use Rattle.group_protocol.proofs.Elements.{entries_one}
 use Rattle.group_rules.specs.Leads.{LeadsByRules}
 use Rattle.group_rules.specs.Reachable.{opening_ballot, first_batch, first_two, last_two, one_new, overlapping_deeds}
 use Rattle.group_rules.specs.Rules.{LearnsOnly, Up, WorldState, fresh}
-use Rattle.group_rules.proofs.ChainedSteps.{◌▸◌, Reaches, and_then, campaigns, hears, hears_by, key_1, knowing, learns_at, makes_call, presses, promised, proposes, report, safe_at_first, starts, stop, submits_none, submits_one, ticks, typed_by, typing, votes}
+use Rattle.group_rules.proofs.ChainedSteps.{◌▸◌, Reached, and_then, campaigns, hears, hears_by, key_1, knowing, learns_at, makes_call, presses, promised, proposes, report, safe_at_first, starts, stop, submits_none, submits_one, ticks, typed_by, typing, votes}
 use Rattle.group_rules.proofs.GroupsReached.{waits}
 use Rattle.group_rules.proofs.WrittenVotes.{are_chosen, chosen_by}
 
@@ -34,7 +34,7 @@ module _ (p : Parts) where
   two_left = typing one_left (third ∷ [])
 
   -- both batches are accepted
-  abbrev accepted : Reaches (one_new p) (take 11 overlapping_deeds)
+  abbrev accepted : Reached (one_new p) (take 11 overlapping_deeds)
   accepted =
       starts 1 refl
       ▸ presses 1 (fresh p) refl key_1 refl refl refl
@@ -72,7 +72,7 @@ module _ (p : Parts) where
         };
       }
 
-  abbrev last_accepted : Reaches accepted.end (drop 11 overlapping_deeds)
+  abbrev last_accepted : Reached accepted.end (drop 11 overlapping_deeds)
   last_accepted =
       hears_by 1 two_wait refl 6 _ None refl refl (makes_call accepted.end 1 None [] one_left [] two_wait refl tt tt learns_first
       (submits_none _ [] refl) (omega arith))
@@ -84,7 +84,7 @@ module _ (p : Parts) where
       ▸ votes 1 two_left refl 9 1 opening_ballot 2 last_two refl refl refl
       ▸ stop
 
-  abbrev all_accepted : Reaches (one_new p) overlapping_deeds
+  abbrev all_accepted : Reached (one_new p) overlapping_deeds
   all_accepted = and_then accepted last_accepted
 
 pub batches_may_overlap : (p : Parts) → (w : WorldState) × LeadsByRules (one_new p) overlapping_deeds w

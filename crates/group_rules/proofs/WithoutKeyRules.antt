@@ -21,16 +21,16 @@ use Rattle.group_rules.specs.Leads.{LeadsUnder}
 use Rattle.group_rules.specs.Reachable.{by, first_batch, first_chosen_deeds, first_kept, first_start_deeds, hears_from, later_ballot, one_new, opening_ballot, with_call}
 use Rattle.group_rules.specs.Rules.{Up, WorldState, fresh, with_seat}
 use Rattle.group_rules.specs.WeakerRules
-use Rattle.group_rules.specs.WeakerRules.{CallsWithout, StepWithout, WeakerStep}
+use Rattle.group_rules.specs.WeakerRules.{StepWithout, WeakerStep}
 use Rattle.group_rules.specs.WithoutRules.{chosen_later_deeds, chosen_next_deeds, counted_deeds, fallen_deeds, late_batch, left_unread_deeds, second_alone_deeds, started_hearing_deeds, twin_batch, typed_deeds}
-use Rattle.group_rules.proofs.ChainedSteps.{◌▸◌, Reaches, and_then, campaigns, hears, key_1, knowing, learns_at, learns_nothing, presses, promised, proposes, report, rest_by, rest_seat, safe_at_first, says, seat_by, starts, stop, submits_none, submits_one, ticks, typed_by, typing, votes}
-use Rattle.group_rules.proofs.GroupsReached.{first_chosen, first_crashed, first_start, vote_at, waits}
-use Rattle.group_rules.proofs.WeakerSteps.{leads_past}
+use Rattle.group_rules.proofs.ChainedSteps.{◌▸◌, Reached, and_then, campaigns, hears, key_1, knowing, learns_at, learns_nothing, presses, promised, proposes, report, rest_seat, safe_at_first, says, seat_by, starts, stop, submits_none, submits_one, ticks, typed_by, typing, votes}
+use Rattle.group_rules.proofs.GroupsReached.{first_chosen, first_crashed, first_start, vote_at, waits, chooses_later, first_promised}
+use Rattle.group_rules.proofs.WeakerSteps.{leads_past, calls_without}
 use Rattle.group_rules.proofs.WrittenVotes.{are_chosen, chosen_by, not_row, votes_of}
 
 -- ---- what is chosen then
 
--- the values at places 0 and 1, of which these messages tell
+-- the values that are chosen at places 0 and 1, by these votes
 both_chosen : {sent : Sent} {v : Value} {b : Ballot} (k : ℕ) → take 1 (drop 4 sent) ≡ votes_of (1 ∷ []) opening_ballot 0 first_batch
     → take 1 (drop k sent) ≡ votes_of (1 ∷ []) b 1 v → AreChosen 1 sent (first_batch ∷ v ∷ [])
 both_chosen {sent} {v} {b} k first later =
@@ -73,7 +73,7 @@ module _ (p : Parts) where
   abbrev up_both : Up
   up_both = typing up_first (key_late ∷ [])
 
-  abbrev both_typed : Reaches (one_new p) (first_start_deeds ++ by 1 (deed.Press 65) ∷ by 1 (deed.Press 66) ∷ [])
+  abbrev both_typed : Reached (one_new p) (first_start_deeds ++ by 1 (deed.Press 65) ∷ by 1 (deed.Press 66) ∷ [])
   both_typed =
       and_then (first_start p) (
       presses 1 (fresh p) refl key_first refl refl refl
@@ -81,9 +81,9 @@ module _ (p : Parts) where
       ▸ stop
       )
 
-  abbrev both_promised : Reaches (one_new p) (first_start_deeds ++ by 1 (deed.Press 65) ∷ by 1 (deed.Press 66) ∷ by 1 deed.Campaign
+  abbrev typed_and_promised : Reached (one_new p) (first_start_deeds ++ by 1 (deed.Press 65) ∷ by 1 (deed.Press 66) ∷ by 1 deed.Campaign
       ∷ hears_from 1 1 (Prepare later_ballot 0) ∷ [])
-  both_promised =
+  typed_and_promised =
       and_then both_typed (
       campaigns 1 up_both refl 2 0 (inl (omega arith))
       ▸ hears 1 up_both refl 5 _ None (Promise later_ballot 0 2 (vote_at 0 ∷ []) ∷ []) refl refl (inl refl) tt
@@ -92,30 +92,16 @@ module _ (p : Parts) where
       )
 
   abbrev submitted : WorldState
-  submitted = with_call both_promised.end 1 None (Submit late_batch ∷ []) up_both []
+  submitted = with_call typed_and_promised.end 1 None (Submit late_batch ∷ []) up_both []
 
-  submits_late : WeakerStep WeakerRules.Submits both_promised.end 1 deed.Tick submitted
+  submits_late : WeakerStep WeakerRules.Submits typed_and_promised.end 1 deed.Tick submitted
   submits_late =
-      let learns = learns_nothing both_promised.end [] up_both in
-      record {
-        bodies = Submit late_batch ∷ [];
-        was = up_both;
-        now = up_both;
-        from = refl;
-        leaves = seat_by both_promised.end 1 _;
-        rest = rest_by both_promised.end 1 None (Submit late_batch ∷ []) up_both [];
-        saves = inr tt;
-        sends = inr (typed_by _ 1 2 2 66 [] ((2, lit< tt, refl), tt), tt);
-        keeps = learns.keeps;
-        gains = inr learns.gains;
-        configuration = inr refl;
-        released = inr refl;
-        waiting = inr learns.waiting;
-        submits = inl refl;
-        next = inr refl;
-      }
+      let learns = learns_nothing typed_and_promised.end [] up_both in
+      calls_without WeakerRules.Submits typed_and_promised.end 1 None (Submit late_batch ∷ []) up_both up_both [] refl (inr tt)
+      (inr (typed_by _ 1 2 2 66 [] ((2, lit< tt, refl), tt), tt)) learns.keeps (inr learns.gains) (inr refl) (inr refl)
+      (inr learns.waiting) (inl refl) (inr refl)
 
-  abbrev after_submit : Reaches submitted (chosen_next_deeds late_batch)
+  abbrev after_submit : Reached submitted (chosen_next_deeds late_batch)
   after_submit =
       proposes 1 up_both refl 7 _ later_ballot 1 late_batch refl refl refl refl (safe_at_first (1 ∷ []) (lit< tt)
       (promised (6, lit< tt, refl) (omega arith) (omega arith), tt) (1, (7, lit< tt, refl)))
@@ -125,7 +111,7 @@ module _ (p : Parts) where
   pub second_alone : (w : WorldState) × LeadsUnder (StepWithout WeakerRules.Submits) (one_new p) second_alone_deeds w × ¬ SerialsInOrder w
   second_alone = (
     after_submit.end,
-    leads_past WeakerRules.Submits _ _ _ _ _ _ _ both_promised.leads submits_late after_submit.leads,
+    leads_past WeakerRules.Submits _ _ _ _ _ _ _ typed_and_promised.leads submits_late after_submit.leads,
     not_in_order after_submit.end (both_chosen 9 refl refl),
   )
 
@@ -140,35 +126,12 @@ module _ (p : Parts) where
   leaves_unread : WeakerStep WeakerRules.Waiting both_typed.end 1 deed.Tick one_left
   leaves_unread =
       let learns = learns_nothing both_typed.end [] up_both in
-      record {
-        bodies = [];
-        was = up_both;
-        now = up_alone;
-        from = refl;
-        leaves = seat_by both_typed.end 1 _;
-        rest = rest_by both_typed.end 1 None [] up_alone [];
-        saves = inr tt;
-        sends = inr tt;
-        keeps = learns.keeps;
-        gains = inr learns.gains;
-        configuration = inr refl;
-        released = inr refl;
-        waiting = inl refl;
-        submits = inr (submits_none _ [] refl);
-        next = inr refl;
-      }
+      calls_without WeakerRules.Waiting both_typed.end 1 None [] up_both up_alone [] refl (inr tt) (inr tt) learns.keeps
+      (inr learns.gains) (inr refl) (inr refl) (inl refl) (inr (submits_none _ [] refl)) (inr refl)
 
-  abbrev after_left : Reaches one_left (chosen_later_deeds late_batch)
+  abbrev after_left : Reached one_left (chosen_later_deeds late_batch)
   after_left =
-      campaigns 1 up_alone refl 2 0 (inl (omega arith))
-      ▸ hears 1 up_alone refl 5 _ None (Promise later_ballot 0 2 (vote_at 0 ∷ []) ∷ []) refl refl (inl refl) tt
-      ((refl, report _ _ _ ((omega arith, omega arith), tt)), tt)
-      ▸ ticks 1 up_alone refl (Submit late_batch ∷ []) (typed_by _ 1 2 2 66 [] ((2, lit< tt, refl), tt), tt)
-      (submits_one _ late_batch (record { rest = []; whole = refl }))
-      ▸ proposes 1 up_alone refl 7 _ later_ballot 1 late_batch refl refl refl refl (safe_at_first (1 ∷ []) (lit< tt)
-      (promised (6, lit< tt, refl) (omega arith) (omega arith), tt) (1, (7, lit< tt, refl)))
-      ▸ votes 1 up_alone refl 8 1 later_ballot 1 late_batch refl refl refl
-      ▸ stop
+      chooses_later p _ 2 up_alone _ late_batch (typed_by _ 1 2 2 66 [] ((2, lit< tt, refl), tt)) (record { rest = []; whole = refl })
 
   pub left_unread : (w : WorldState) × LeadsUnder (StepWithout WeakerRules.Waiting) (one_new p) left_unread_deeds w × ¬ SerialsInOrder w
   left_unread = (
@@ -188,39 +151,17 @@ module _ (p : Parts) where
   counts : WeakerStep WeakerRules.Next begun 1 deed.Tick counted
   counts =
       let learns = learns_nothing begun [] (fresh p) in
-      record {
-        bodies = [];
-        was = fresh p;
-        now = up_counted;
-        from = refl;
-        leaves = seat_by begun 1 _;
-        rest = rest_by begun 1 None [] up_counted [];
-        saves = inr tt;
-        sends = inr tt;
-        keeps = learns.keeps;
-        gains = inr learns.gains;
-        configuration = inr refl;
-        released = inr refl;
-        waiting = inr learns.waiting;
-        submits = inr (submits_none _ [] refl);
-        next = inl refl;
-      }
+      calls_without WeakerRules.Next begun 1 None [] (fresh p) up_counted [] refl (inr tt) (inr tt) learns.keeps (inr learns.gains)
+      (inr refl) (inr refl) (inr learns.waiting) (inr (submits_none _ [] refl)) (inl refl)
 
-  abbrev up_third : Up
-  up_third = typing up_counted (key_late ∷ [])
+  abbrev up_after_count : Up
+  up_after_count = typing up_counted (key_late ∷ [])
 
-  abbrev after_count : Reaches counted (by 1 (deed.Press 66) ∷ chosen_later_deeds late_batch)
+  abbrev after_count : Reached counted (by 1 (deed.Press 66) ∷ chosen_later_deeds late_batch)
   after_count =
       presses 1 up_counted refl key_late refl refl refl
-      ▸ campaigns 1 up_third refl 2 0 (inl (omega arith))
-      ▸ hears 1 up_third refl 5 _ None (Promise later_ballot 0 2 (vote_at 0 ∷ []) ∷ []) refl refl (inl refl) tt
-      ((refl, report _ _ _ ((omega arith, omega arith), tt)), tt)
-      ▸ ticks 1 up_third refl (Submit late_batch ∷ []) (typed_by _ 1 2 2 66 [] ((1, lit< tt, refl), tt), tt)
-      (submits_one _ late_batch (record { rest = []; whole = refl }))
-      ▸ proposes 1 up_third refl 7 _ later_ballot 1 late_batch refl refl refl refl (safe_at_first (1 ∷ []) (lit< tt)
-      (promised (6, lit< tt, refl) (omega arith) (omega arith), tt) (1, (7, lit< tt, refl)))
-      ▸ votes 1 up_third refl 8 1 later_ballot 1 late_batch refl refl refl
-      ▸ stop
+      ▸ chooses_later p _ 2 up_after_count _ late_batch (typed_by _ 1 2 2 66 [] ((1, lit< tt, refl), tt))
+      (record { rest = []; whole = refl })
 
   pub counted_on : (w : WorldState) × LeadsUnder (StepWithout WeakerRules.Next) (one_new p) counted_deeds w × ¬ SerialsInOrder w
   counted_on = (
@@ -247,17 +188,9 @@ module _ (p : Parts) where
     call = says 1 (fresh p) refl None [] (key_late ∷ []) tt tt (submits_none _ [] refl);
   }
 
-  abbrev after_late : Reaches typed_late (chosen_later_deeds late_batch)
+  abbrev after_late : Reached typed_late (chosen_later_deeds late_batch)
   after_late =
-      campaigns 1 up_late refl 2 0 (inl (omega arith))
-      ▸ hears 1 up_late refl 5 _ None (Promise later_ballot 0 2 (vote_at 0 ∷ []) ∷ []) refl refl (inl refl) tt
-      ((refl, report _ _ _ ((omega arith, omega arith), tt)), tt)
-      ▸ ticks 1 up_late refl (Submit late_batch ∷ []) (typed_by _ 1 2 2 66 [] ((1, lit< tt, refl), tt), tt)
-      (submits_one _ late_batch (record { rest = []; whole = refl }))
-      ▸ proposes 1 up_late refl 7 _ later_ballot 1 late_batch refl refl refl refl (safe_at_first (1 ∷ []) (lit< tt)
-      (promised (6, lit< tt, refl) (omega arith) (omega arith), tt) (1, (7, lit< tt, refl)))
-      ▸ votes 1 up_late refl 8 1 later_ballot 1 late_batch refl refl refl
-      ▸ stop
+      chooses_later p _ 2 up_late _ late_batch (typed_by _ 1 2 2 66 [] ((1, lit< tt, refl), tt)) (record { rest = []; whole = refl })
 
   pub left_out : (w : WorldState) × LeadsUnder (StepWithout WeakerRules.Serial) (one_new p) (typed_deeds late_batch) w × ¬ SerialsInOrder w
   left_out = (
@@ -273,18 +206,8 @@ module _ (p : Parts) where
   up_read = record (knowing (waits p) 0 first_batch) { waiting = [] }
 
   -- the first batch is chosen, by a promise that covers place 1 too
-  abbrev chosen_far : Reaches (one_new p) first_chosen_deeds
-  chosen_far =
-      starts 1 refl
-      ▸ presses 1 (fresh p) refl key_1 refl refl refl
-      ▸ campaigns 1 (waits p) refl 1 0 tt
-      ▸ hears 1 (waits p) refl 0 _ None (Promise opening_ballot 0 2 [] ∷ []) refl refl (inl refl) tt ((refl, report _ _ _ tt), tt)
-      ▸ ticks 1 (waits p) refl (Submit first_batch ∷ []) (typed_by _ 1 1 1 65 [] ((0, lit< tt, refl), tt), tt)
-      (submits_one _ first_batch (record { rest = []; whole = refl }))
-      ▸ proposes 1 (waits p) refl 2 _ opening_ballot 0 first_batch refl refl refl refl (safe_at_first (1 ∷ []) (lit< tt)
-      (promised (1, lit< tt, refl) (omega arith) (omega arith), tt) (1, (2, lit< tt, refl)))
-      ▸ votes 1 (waits p) refl 3 1 opening_ballot 0 first_batch refl refl refl
-      ▸ stop
+  abbrev chosen_far : Reached (one_new p) first_chosen_deeds
+  chosen_far = first_promised p 2 (omega arith)
 
   abbrev started : WorldState
   started = with_call chosen_far.end 1 (Some change.Start) [] up_read []
@@ -296,36 +219,22 @@ module _ (p : Parts) where
       (opening_ballot, chosen_by chosen_far.end.sent (1 ∷ []) 4 (lit< tt) refl) in
       let read : Contains (keys_in_order (front_values up_read.learned)) key_1 =
       rw (entries_one 0 first_batch, get_here empty 0 first_batch) (0, omega arith, refl) in
+      let gone = All-from_recursion (λ k. Contains (keys_in_order (front_values up_read.learned)) k) (key_1 ∷ []) (read, tt) in
       record {
+        is_sent = (4, lit< tt, refl);
         saved = Some change.Start;
         cause = inl refl;
-        call = record {
-          bodies = [];
-          was = waits p;
-          now = up_read;
-          from = refl;
-          leaves = seat_by chosen_far.end 1 _;
-          rest = rest_by chosen_far.end 1 (Some change.Start) [] up_read [];
-          saves = inr tt;
-          sends = inr tt;
-          keeps = learns.keeps;
-          gains = inr learns.gains;
-          configuration = inr refl;
-          released = inr refl;
-          waiting = inr (record {
-            gone = key_1 ∷ [];
-            parts = refl;
-            below = All-from_recursion (λ k. Contains (keys_in_order (front_values up_read.learned)) k) (key_1 ∷ []) (read, tt);
-          });
-          submits = inr (submits_none _ [] refl);
-          next = inr refl;
-        };
+        call =
+            calls_without WeakerRules.Cause chosen_far.end 1 (Some change.Start) [] (waits p) up_read [] refl (inr tt) (inr tt)
+            learns.keeps (inr learns.gains) (inr refl) (inr refl)
+            (inr (record { gone = key_1 ∷ []; parts = refl; below = gone }))
+            (inr (submits_none _ [] refl)) (inr refl);
       }
 
   abbrev up_second : Up
   up_second = typing up_read (key_late ∷ [])
 
-  abbrev after_start : Reaches started (by 1 (deed.Press 66) ∷ by 1 deed.Tick ∷ hears_from 1 1 (Submit late_batch)
+  abbrev after_start : Reached started (by 1 (deed.Press 66) ∷ by 1 deed.Tick ∷ hears_from 1 1 (Submit late_batch)
       ∷ hears_from 1 1 (Accept opening_ballot 1 late_batch) ∷ [])
   after_start =
       presses 1 up_read refl key_late refl refl refl
@@ -362,17 +271,9 @@ module _ (p : Parts) where
     call = says 1 (fresh p) refl None [] (key_twin ∷ []) tt tt (submits_none _ [] refl);
   }
 
-  abbrev after_twin : Reaches typed_twin (chosen_later_deeds twin_batch)
+  abbrev after_twin : Reached typed_twin (chosen_later_deeds twin_batch)
   after_twin =
-      campaigns 1 up_twin refl 2 0 (inl (omega arith))
-      ▸ hears 1 up_twin refl 5 _ None (Promise later_ballot 0 2 (vote_at 0 ∷ []) ∷ []) refl refl (inl refl) tt
-      ((refl, report _ _ _ ((omega arith, omega arith), tt)), tt)
-      ▸ ticks 1 up_twin refl (Submit twin_batch ∷ []) (typed_by _ 1 1 1 66 [] ((1, lit< tt, refl), tt), tt)
-      (submits_one _ twin_batch (record { rest = []; whole = refl }))
-      ▸ proposes 1 up_twin refl 7 _ later_ballot 1 twin_batch refl refl refl refl (safe_at_first (1 ∷ []) (lit< tt)
-      (promised (6, lit< tt, refl) (omega arith) (omega arith), tt) (1, (7, lit< tt, refl)))
-      ▸ votes 1 up_twin refl 8 1 later_ballot 1 twin_batch refl refl refl
-      ▸ stop
+      chooses_later p _ 2 up_twin _ twin_batch (typed_by _ 1 1 1 66 [] ((1, lit< tt, refl), tt)) (record { rest = []; whole = refl })
 
   pub typed_again : (w : WorldState) × LeadsUnder (StepWithout WeakerRules.Start_of_key) (one_new p) (typed_deeds twin_batch) w
       × ¬ KeysOnce w
@@ -390,24 +291,17 @@ module _ (p : Parts) where
   starts_uncounted : WeakerStep WeakerRules.Start_counts (first_crashed p).end 1 (deed.Start first_kept) uncounted
   starts_uncounted = record {
     down = refl;
+    own = refl;
     kept = first_kept;
     counts = inl refl;
     leaves = seat_by (first_crashed p).end 1 _;
     rest = rest_seat (first_crashed p).end 1 _;
   }
 
-  abbrev after_uncounted : Reaches uncounted (by 1 (deed.Press 66) ∷ chosen_later_deeds twin_batch)
+  abbrev after_uncounted : Reached uncounted (by 1 (deed.Press 66) ∷ chosen_later_deeds twin_batch)
   after_uncounted =
       presses 1 (fresh p) refl key_twin refl refl refl
-      ▸ campaigns 1 up_twin refl 2 0 (inl (omega arith))
-      ▸ hears 1 up_twin refl 5 _ None (Promise later_ballot 0 2 (vote_at 0 ∷ []) ∷ []) refl refl (inl refl) tt
-      ((refl, report _ _ _ ((omega arith, omega arith), tt)), tt)
-      ▸ ticks 1 up_twin refl (Submit twin_batch ∷ []) (typed_by _ 1 1 1 66 [] ((1, lit< tt, refl), tt), tt)
-      (submits_one _ twin_batch (record { rest = []; whole = refl }))
-      ▸ proposes 1 up_twin refl 7 _ later_ballot 1 twin_batch refl refl refl refl (safe_at_first (1 ∷ []) (lit< tt)
-      (promised (6, lit< tt, refl) (omega arith) (omega arith), tt) (1, (7, lit< tt, refl)))
-      ▸ votes 1 up_twin refl 8 1 later_ballot 1 twin_batch refl refl refl
-      ▸ stop
+      ▸ chooses_later p _ 1 up_twin _ twin_batch (typed_by _ 1 1 1 66 [] ((1, lit< tt, refl), tt)) (record { rest = []; whole = refl })
 
   pub started_uncounted : (w : WorldState) × LeadsUnder (StepWithout WeakerRules.Start_counts) (one_new p) (typed_deeds twin_batch) w
       × ¬ KeysOnce w
@@ -436,20 +330,12 @@ module _ (p : Parts) where
     };
   }
 
-  abbrev after_fall : Reaches fallen (by 1 (deed.Start (record first_kept { starts = 0 })) ∷ by 1 (deed.Press 66)
+  abbrev after_fall : Reached fallen (by 1 (deed.Start (record first_kept { starts = 0 })) ∷ by 1 (deed.Press 66)
       ∷ chosen_later_deeds twin_batch)
   after_fall =
       starts 1 refl
       ▸ presses 1 (fresh p) refl key_twin refl refl refl
-      ▸ campaigns 1 up_twin refl 2 0 (inl (omega arith))
-      ▸ hears 1 up_twin refl 5 _ None (Promise later_ballot 0 2 (vote_at 0 ∷ []) ∷ []) refl refl (inl refl) tt
-      ((refl, report _ _ _ ((omega arith, omega arith), tt)), tt)
-      ▸ ticks 1 up_twin refl (Submit twin_batch ∷ []) (typed_by _ 1 1 1 66 [] ((1, lit< tt, refl), tt), tt)
-      (submits_one _ twin_batch (record { rest = []; whole = refl }))
-      ▸ proposes 1 up_twin refl 7 _ later_ballot 1 twin_batch refl refl refl refl (safe_at_first (1 ∷ []) (lit< tt)
-      (promised (6, lit< tt, refl) (omega arith) (omega arith), tt) (1, (7, lit< tt, refl)))
-      ▸ votes 1 up_twin refl 8 1 later_ballot 1 twin_batch refl refl refl
-      ▸ stop
+      ▸ chooses_later p _ 1 up_twin _ twin_batch (typed_by _ 1 1 1 66 [] ((1, lit< tt, refl), tt)) (record { rest = []; whole = refl })
 
   pub fell_back : (w : WorldState) × LeadsUnder (StepWithout WeakerRules.Fall_keeps) (one_new p) fallen_deeds w × ¬ KeysOnce w
   fell_back = (

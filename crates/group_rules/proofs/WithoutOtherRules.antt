@@ -26,14 +26,14 @@ use Rattle.group_rules.specs.WeakerRules
 use Rattle.group_rules.specs.WeakerRules.{StepWithout, WeakerStep}
 use Rattle.group_rules.specs.WithoutRules.{learned_again_deeds, run_out_deeds, ticked_deeds, ticked_out_deeds, told_deeds, voted_back_deeds}
 use Rattle.group_rules.specs.Counterexamples.{silent}
-use Rattle.group_rules.proofs.ChainedSteps.{◌▸◌, Reaches, campaigns, crashes, hears, hears_by, key_1, knowing, learns, learns_nothing, makes_call, presses, promised, proposes, releases, report, rest_by, rest_seat, safe_at_first, seat_by, starts, still, stop, submits_none, submits_one, ticks, typed_by, typing, votes}
+use Rattle.group_rules.proofs.ChainedSteps.{◌▸◌, Reached, campaigns, crashes, hears, hears_by, key_1, knowing, learns, learns_nothing, makes_call, presses, promised, proposes, releases, report, rest_seat, safe_at_first, seat_by, starts, still, stop, submits_none, submits_one, ticks, typed_by, typing, votes}
 use Rattle.group_rules.proofs.GroupsReached.{waits}
 use Rattle.group_rules.proofs.SmallPrograms.{stays, written_by}
-use Rattle.group_rules.proofs.WeakerSteps.{leads_past, leads_without}
+use Rattle.group_rules.proofs.WeakerSteps.{leads_past, leads_without, calls_without}
 use Rattle.group_rules.proofs.WrittenVotes.{has_learned, not_chosen}
 
 module _ (p : Parts) where
-  abbrev first_up : Reaches (one_new p) (by 1 (deed.Start empty_record) ∷ [])
+  abbrev first_up : Reached (one_new p) (by 1 (deed.Start empty_record) ∷ [])
   first_up = starts 1 refl ▸ stop
 
   -- ---- it tells of what it has not learned
@@ -47,23 +47,9 @@ module _ (p : Parts) where
   tells : WeakerStep WeakerRules.Sends first_up.end 1 deed.Tick told
   tells =
       let learns = learns_nothing first_up.end [] (fresh p) in
-      record {
-        bodies = Tell 700 first_batch ∷ [];
-        was = fresh p;
-        now = still (fresh p);
-        from = refl;
-        leaves = seat_by first_up.end 1 _;
-        rest = rest_by first_up.end 1 None (Tell 700 first_batch ∷ []) (still (fresh p)) [];
-        saves = inr tt;
-        sends = inl refl;
-        keeps = learns.keeps;
-        gains = inr learns.gains;
-        configuration = inr refl;
-        released = inr refl;
-        waiting = inr learns.waiting;
-        submits = inr (submits_none _ (Tell 700 first_batch ∷ []) refl);
-        next = inr refl;
-      }
+      calls_without WeakerRules.Sends first_up.end 1 None (Tell 700 first_batch ∷ []) (fresh p) (still (fresh p)) [] refl (inr tt)
+      (inl refl) learns.keeps (inr learns.gains) (inr refl) (inr refl) (inr learns.waiting)
+      (inr (submits_none _ (Tell 700 first_batch ∷ []) refl)) (inr refl)
 
   -- it learns what it is told
   learns_told : LearnsOnly told [] (fresh p) up_told
@@ -78,7 +64,7 @@ module _ (p : Parts) where
     waiting = record { gone = []; parts = refl; below = λ i d below. absurd (omega arith) };
   }
 
-  abbrev after_told : Reaches told (hears_from 1 1 (Tell 700 first_batch) ∷ [])
+  abbrev after_told : Reached told (hears_from 1 1 (Tell 700 first_batch) ∷ [])
   after_told =
       hears_by 1 (fresh p) refl 0 _ None refl refl (makes_call told 1 None [] up_told [] (fresh p) refl tt tt learns_told
       (submits_none _ [] refl) refl)
@@ -104,23 +90,9 @@ module _ (p : Parts) where
   guessed = with_call first_up.end 1 None [] up_told []
 
   guesses : WeakerStep WeakerRules.Gains first_up.end 1 deed.Tick guessed
-  guesses = record {
-    bodies = [];
-    was = fresh p;
-    now = up_told;
-    from = refl;
-    leaves = seat_by first_up.end 1 _;
-    rest = rest_by first_up.end 1 None [] up_told [];
-    saves = inr tt;
-    sends = inr tt;
-    keeps = learns_told.keeps;
-    gains = inl refl;
-    configuration = inr refl;
-    released = inr refl;
-    waiting = inr learns_told.waiting;
-    submits = inr (submits_none _ [] refl);
-    next = inr refl;
-  }
+  guesses =
+      calls_without WeakerRules.Gains first_up.end 1 None [] (fresh p) up_told [] refl (inr tt) (inr tt) learns_told.keeps (inl refl)
+      (inr refl) (inr refl) (inr learns_told.waiting) (inr (submits_none _ [] refl)) (inr refl)
 
   pub guessed_only : (w : WorldState) × LeadsUnder (StepWithout WeakerRules.Gains) (one_new p) ticked_deeds w × ¬ LearnedChosen w
   guessed_only = (
@@ -140,23 +112,8 @@ module _ (p : Parts) where
   counts_out : WeakerStep WeakerRules.Released_stays first_up.end 1 deed.Tick counted_out
   counts_out =
       let learns = learns_nothing first_up.end [] (fresh p) in
-      record {
-        bodies = [];
-        was = fresh p;
-        now = up_ahead;
-        from = refl;
-        leaves = seat_by first_up.end 1 _;
-        rest = rest_by first_up.end 1 None [] up_ahead [];
-        saves = inr tt;
-        sends = inr tt;
-        keeps = learns.keeps;
-        gains = inr learns.gains;
-        configuration = inr refl;
-        released = inl refl;
-        waiting = inr learns.waiting;
-        submits = inr (submits_none _ [] refl);
-        next = inr refl;
-      }
+      calls_without WeakerRules.Released_stays first_up.end 1 None [] (fresh p) up_ahead [] refl (inr tt) (inr tt) learns.keeps
+      (inr learns.gains) (inr refl) (inl refl) (inr learns.waiting) (inr (submits_none _ [] refl)) (inr refl)
 
   pub counted_unreleased : (w : WorldState) × LeadsUnder (StepWithout WeakerRules.Released_stays) (one_new p) ticked_deeds w
       × ¬ ConsolesShowReleased w
@@ -175,7 +132,7 @@ module _ (p : Parts) where
   up_two = typing (waits p) (key_second ∷ [])
 
   -- it proposes the first key under its first ballot, and both keys under its second
-  abbrev voted : Reaches (one_new p) (take 12 voted_back_deeds)
+  abbrev voted : Reached (one_new p) (take 12 voted_back_deeds)
   voted =
       starts 1 refl
       ▸ presses 1 (fresh p) refl key_1 refl refl refl
@@ -205,36 +162,24 @@ module _ (p : Parts) where
       let learns = learns_nothing voted.end [] up_two in
       let said : IsSaid voted.end.sent (Accept opening_ballot 0 first_batch) = (1, (4, lit< tt, refl)) in
       record {
+        is_sent = said.1;
         saved = Some (change.Ballotted 0 opening_ballot first_batch);
         cause = inr (inr refl);
-        call = record {
-          bodies = Accepted opening_ballot 0 first_batch ∷ [];
-          was = up_two;
-          now = still up_two;
-          from = refl;
-          leaves = seat_by voted.end 1 _;
-          rest = rest_by voted.end 1 (Some (change.Ballotted 0 opening_ballot first_batch)) (Accepted opening_ballot 0 first_batch ∷ [])
-              (still up_two) [];
-          saves = inl refl;
-          sends = inr ((said, refl, refl), tt);
-          keeps = learns.keeps;
-          gains = inr learns.gains;
-          configuration = inr refl;
-          released = inr refl;
-          waiting = inr learns.waiting;
-          submits = inr (submits_none _ (Accepted opening_ballot 0 first_batch ∷ []) refl);
-          next = inr refl;
-        };
+        call =
+            calls_without WeakerRules.Saves voted.end 1 (Some (change.Ballotted 0 opening_ballot first_batch))
+            (Accepted opening_ballot 0 first_batch ∷ []) up_two (still up_two) [] refl (inl refl) (inr ((said, refl, refl), tt))
+            learns.keeps (inr learns.gains) (inr refl) (inr refl) (inr learns.waiting)
+            (inr (submits_none _ (Accepted opening_ballot 0 first_batch ∷ []) refl)) (inr refl);
       }
 
   -- it learns the first key
-  abbrev learned_first : Reaches back (hears_from 1 1 (Accepted opening_ballot 0 first_batch) ∷ [])
+  abbrev learned_first : Reached back (hears_from 1 1 (Accepted opening_ballot 0 first_batch) ∷ [])
   learned_first =
       learns 1 up_two refl 9 1 opening_ballot 0 first_batch refl (get-empty nat_cmp 0) (1 ∷ []) 9 (lit< tt) refl
       ▸ stop
 
   -- it starts again, and learns both
-  abbrev learned_both : Reaches learned_first.end learned_again_deeds
+  abbrev learned_both : Reached learned_first.end learned_again_deeds
   learned_both =
       crashes 1
       ▸ starts 1 refl
@@ -260,7 +205,7 @@ writes_by_itself = record (begin silent) { output = 66 ∷ [] }
 abbrev up_written : Up
 up_written = record (fresh silent) { configuration = writes_by_itself }
 
-abbrev silent_up : Reaches (one_new silent) (by 1 (deed.Start empty_record) ∷ [])
+abbrev silent_up : Reached (one_new silent) (by 1 (deed.Start empty_record) ∷ [])
 silent_up = starts 1 refl ▸ stop
 
 -- its console shows a byte that the program does not write
@@ -279,25 +224,10 @@ written_at_tick = with_call silent_up.end 1 None [] up_written []
 ticks_out : WeakerStep WeakerRules.Configuration_stays silent_up.end 1 deed.Tick written_at_tick
 ticks_out =
     let learns = learns_nothing silent_up.end [] (fresh silent) in
-    record {
-      bodies = [];
-      was = fresh silent;
-      now = up_written;
-      from = refl;
-      leaves = seat_by silent_up.end 1 _;
-      rest = rest_by silent_up.end 1 None [] up_written [];
-      saves = inr tt;
-      sends = inr tt;
-      keeps = learns.keeps;
-      gains = inr learns.gains;
-      configuration = inl refl;
-      released = inr refl;
-      waiting = inr learns.waiting;
-      submits = inr (submits_none _ [] refl);
-      next = inr refl;
-    }
+    calls_without WeakerRules.Configuration_stays silent_up.end 1 None [] (fresh silent) up_written [] refl (inr tt) (inr tt)
+    learns.keeps (inr learns.gains) (inl refl) (inr refl) (inr learns.waiting) (inr (submits_none _ [] refl)) (inr refl)
 
-abbrev after_tick : Reaches written_at_tick (by 1 deed.Release ∷ [])
+abbrev after_tick : Reached written_at_tick (by 1 deed.Release ∷ [])
 after_tick = releases 1 up_written refl 66 refl ▸ stop
 
 pub ticked_out : ((size : ℕ) (sent : Sent) → (x : List ℕ) × IsInput size sent x)
@@ -318,12 +248,13 @@ runs_out = record {
   configuration = writes_by_itself;
   made = 0;
   from = refl;
+  few = omega arith;
   moves = inl refl;
   leaves = seat_by silent_up.end 1 _;
   rest = rest_seat silent_up.end 1 _;
 }
 
-abbrev after_run : Reaches written_at_run (by 1 deed.Release ∷ [])
+abbrev after_run : Reached written_at_run (by 1 deed.Release ∷ [])
 after_run = releases 1 up_written refl 66 refl ▸ stop
 
 pub run_out : ((size : ℕ) (sent : Sent) → (x : List ℕ) × IsInput size sent x)

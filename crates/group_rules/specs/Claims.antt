@@ -42,7 +42,7 @@ abbrev pub ConsolesHoldOutput : WorldState → Type 0
 ConsolesHoldOutput w =
     (x : List ℕ) (i : ℕ) → IsInput w.size w.sent x → IsOutput w.program x (w.seats i).console
 
--- Of two consoles one holds a prefix of the other.
+-- Of two consoles one is a prefix of the other.
 -- Source: Simple 3, all servers produce the same sequences of states and outputs.
 -- Forbids: two histories.
 abbrev pub ConsolesAgree : WorldState → Type 0
@@ -94,7 +94,7 @@ serials_of node start keys = map (λ key. key.serial) (filter (is_of node start)
 abbrev pub AreInOrder : List Key → Type 0
 AreInOrder keys = (node start : ℕ) → (k : ℕ) × (serials_of node start keys ≡ range_with_len 1 k)
 
--- Of values that are chosen at the places 0, 1, 2 and so on, each key is read once.
+-- Of the keys that are read in values chosen at the places 0, 1, 2 and so on, no two have one name.
 -- Allows: a key that is chosen twice.
 -- Forbids: one serial with two characters.
 abbrev pub KeysOnce : WorldState → Type 0

@@ -29,7 +29,7 @@ pub record IsShown (p : Parts) (size : ℕ) (sent : Sent) (console : List ℕ) :
   pub output : IsOutput p (input_of values) console
 
 -- A node that is up: what it has learned is chosen, its machine is where steps on its learned input
--- lead, and its console has shown all that it released, which was written.
+-- lead, and it has released no more bytes than it has written, nor than its console has shown.
 pub record IsUpSound (p : Parts) (size : ℕ) (sent : Sent) (console : List ℕ) (u : Up) : Type 0 where
   pub learned : IsLearnedChosen size sent u.learned
   pub steps : ℕ

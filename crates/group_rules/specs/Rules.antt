@@ -6,7 +6,8 @@
 -- They are there since a node, its store and its network do no more, so that the rules say what a
 -- group does and not only what keeps it safe. Of two more the proof makes use, and no group is
 -- known that breaks a claim without them: what is learned stays (`LearnsOnly.keeps`), and a typed
--- key is its node's (`Presses.node`). Each other clause is needed: `WeakerRules.antt`.
+-- key is its node's (`Presses.node`). Fourteen others are proved to be needed (`Clause` of
+-- `WeakerRules.antt`). Of the rest, as that only its node changes, no law says so.
 use Rattle.std.specs.Prelude.{◌≡◌, ◌≢◌, ℕ, zero, suc, ◌+◌, ◌≤◌, ◌==◌, ◌⊎◌, if◌then◌else◌, All, Contains, length, List, [], ◌∷◌, ◌++◌, Option, Some, None, IfSome, IsSome, slice_get}
 use Rattle.std.specs.Ordering.{nat_cmp}
 use Rattle.std.specs.FinMap.{FinMap, empty, get}
@@ -79,8 +80,8 @@ pub record ChangesOnly (w v : WorldState) (i : ℕ) (bodies : List Body)
 
 -- ---- calls that may save and send
 
--- The keys that still wait: keys are added at the end, and leave only from the front, once they are
--- below the known front.
+-- The keys that still wait: of these keys only the first have left, and each that has left is read
+-- in the learned values below the known front.
 -- Allows: a key that is read and still waits.
 -- Forbids: a key that leaves before it is read.
 pub record AreParted (learned : FinMap nat_cmp Value) (keys stay : List Key) : Type 0 where
@@ -88,9 +89,10 @@ pub record AreParted (learned : FinMap nat_cmp Value) (keys stay : List Key) : T
   pub parts : keys ≡ gone ++ stay
   pub below : All (λ k. Contains (keys_in_order (front_values learned)) k) gone
 
--- The changes that a node which is up may make to itself.
--- It learns only what a Tell said, or a majority accepted under one ballot. Its machine and what it
--- has released stay.
+-- The changes that a node which is up may make to itself. It forgets nothing that it has learned,
+-- and learns only what a Tell said, or a majority accepted under one ballot. Its machine and what
+-- it has released stay. Typed keys wait after the others, and those that are read may leave
+-- (`AreParted`).
 -- Source: Simple 2.3.
 pub record LearnsOnly (w : WorldState) (keys : List Key) (was now : Up) : Type 0 where
   pub keeps : HasLearnedMore was.learned now.learned
@@ -248,7 +250,8 @@ pub record Crashes (w v : WorldState) (i : ℕ) : Type 0 where
 -- Allows: a message heard by any node, at any time, any number of times, or never; a crash at any
 -- time.
 -- Forbids: a start saved except at a `Start`, or over another record than the node has; a promise
--- saved except at a Prepare under its ballot or an own campaign; a change of another node.
+-- saved except at a Prepare under its ballot, an own campaign or, with a vote, an Accept; a change
+-- of another node.
 abbrev pub WorldStep : WorldState → ℕ → Deed → WorldState → Type 0
 WorldStep w i Idle v = v ≡ w
 WorldStep w i (Press byte) v = Presses w v i byte
@@ -291,7 +294,8 @@ after_call w i done keys c k console = record (with_seat w i (seat_of done.node 
   typed = w.typed ++ keys;
 }
 
--- The facts of a node in its group, with its machine and its console.
+-- A node in its group: the group has the node's size, and the node's seat shows this node, with its
+-- machine and its console (`seat_of`).
 pub record Sits (w : WorldState) (n : Known) (c : Configuration) (k : ℕ)
     (console : List ℕ) : Type 0 where
   pub size : w.size ≡ n.me.group.size

@@ -1,6 +1,6 @@
 -- The rules without one of their clauses. Each of these clauses is needed: without it deeds lead to
 -- groups that break a claim (`specs/WithoutRules.antt`).
-use Rattle.std.specs.Prelude.{◌≡◌, ◌+◌, ℕ, ◌⊎◌, List, [], ◌∷◌, ◌++◌, None, Option, Some, IfSome, IsSome, length}
+use Rattle.std.specs.Prelude.{◌≡◌, ◌+◌, ◌≤◌, ℕ, ◌⊎◌, Contains, List, [], ◌∷◌, ◌++◌, None, Option, Some, IfSome, IsSome, length}
 use Rattle.std.specs.FinMap.{get}
 use Rattle.pcode_machine.specs.Configuration.{Configuration}
 use Rattle.paxos_msg.specs.declared.record.Change.TheVariants as change
@@ -69,8 +69,9 @@ pub record FallsWithout (left : Clause) (w v : WorldState) (i : ℕ) (c : Change
   pub down : (v.seats i).up ≡ None
   pub rest : ChangesOnly w v i [] []
 
--- A delivery, a campaign, a typed key, a start and a run, without a clause.
+-- The delivery of a message that was sent, without a clause.
 pub record DeliversWithout (left : Clause) (w v : WorldState) (message : Msg) (i : ℕ) : Type 0 where
+  pub is_sent : Contains w.sent message
   pub saved : Option Change
   pub cause : Unless left Cause (MayCause message.body saved)
   pub call : CallsWithout left w v i saved []
@@ -89,21 +90,24 @@ pub record PressesWithout (left : Clause) (w v : WorldState) (i byte : ℕ) : Ty
   pub serial : Unless left Serial (IfSome (w.seats i).up (λ u. key.serial ≡ u.next))
   pub call : MakesCall w v i None (key ∷ [])
 
--- The start of a node that is down, without a clause.
-pub record StartsWithout (left : Clause) (w v : WorldState) (i : ℕ) : Type 0 where
+-- The start of a node that is down, over its own record, without a clause.
+pub record StartsWithout (left : Clause) (w v : WorldState) (loaded : Record) (i : ℕ)
+    : Type 0 where
   pub down : (w.seats i).up ≡ None
+  pub own : loaded ≡ (w.seats i).kept
   pub kept : Record
   pub counts : Unless left Start_counts (kept ≡ changed (w.seats i).kept change.Start)
   pub leaves : v.seats i
       ≡ record { kept = kept; console = (w.seats i).console; up = Some (fresh w.program) }
   pub rest : ChangesOnly w v i [] []
 
--- The run of a node, without a clause.
-pub record RunsWithout (left : Clause) (w v : WorldState) (i : ℕ) : Type 0 where
+-- The run of a node, at most so many steps, without a clause.
+pub record RunsWithout (left : Clause) (w v : WorldState) (i steps : ℕ) : Type 0 where
   pub was : Up
   pub configuration : Configuration
   pub made : ℕ
   pub from : (w.seats i).up ≡ Some was
+  pub few : made ≤ steps
   pub moves : Unless left Moves
       (MakesSteps w.program (learned_input was.learned) made was.configuration configuration)
   pub leaves : v.seats i
@@ -116,8 +120,8 @@ WeakerStep left w i Tick v = CallsWithout left w v i None []
 WeakerStep left w i (Hear message) v = DeliversWithout left w v message i
 WeakerStep left w i Campaign v = CampaignsWithout left w v i
 WeakerStep left w i (Press byte) v = PressesWithout left w v i byte
-WeakerStep left w i (Start loaded) v = StartsWithout left w v i
-WeakerStep left w i (Run steps) v = RunsWithout left w v i
+WeakerStep left w i (Start loaded) v = StartsWithout left w v loaded i
+WeakerStep left w i (Run steps) v = RunsWithout left w v i steps
 WeakerStep left w i deed v = WorldStep w i deed v
 
 -- A step by the rules, or by the rules without this clause.

@@ -54,7 +54,8 @@ fallen_deeds =
     first_chosen_deeds ++ by 1 Campaign ∷ by 1 (Start (record first_kept { starts = 0 }))
     ∷ by 1 (Press 66) ∷ chosen_later_deeds twin_batch
 
--- A node learns its first key, at which a start is counted. The next key is typed.
+-- A node learns its first key, and the same call counts a start. Then the next key is typed, and
+-- chosen.
 abbrev pub started_hearing_deeds : List NodeDeed
 started_hearing_deeds =
     by 1 (Start empty_record) ∷ by 1 (Press 65) ∷ by 1 Campaign

@@ -9,14 +9,14 @@ use Rattle.std.proofs.lemmas.Grind.{common_steps, flat_map-append}
 use Rattle.std.proofs.lemmas.List.{take-append-drop, take_more}
 use Rattle.digits.specs.Digits.{hex_text}
 use Rattle.group_sim.specs.Groups.{console_text, lines_below}
-use Rattle.group_sim.specs.Texts.{AppendsFront, AppendsText, Held, WritesText}
+use Rattle.group_sim.specs.Texts.{AppendsPrefix, AppendsText, Held, WritesText}
 
 -- two texts that were written are one
 pub both-written : {old mid new : Held} {a b : List ℕ} → AppendsText old mid a → AppendsText mid new b → AppendsText old new (a ++ b)
 both-written p q = record { bytes = Appends-trans _ _ _ _ _ p.bytes q.bytes; faults = q.faults ∙ p.faults }
 
 -- and so are a text and a front of another one
-pub front-after : {old mid new : Held} {a b : List ℕ} → AppendsText old mid a → AppendsFront mid new b → AppendsFront old new (a ++ b)
+pub front-after : {old mid new : Held} {a b : List ℕ} → AppendsText old mid a → AppendsPrefix mid new b → AppendsPrefix old new (a ++ b)
 front-after {a = a} p q = grind (arith, append_assoc, a ++ q.front, q.rest, Appends-trans _ _ _ _ _ p.bytes q.bytes)
 
 -- ---- one text after another
@@ -27,12 +27,12 @@ followed a [] = a
 followed a (p ∷ ps) = followed (a ++ p) ps
 
 -- a front of a text is a front of a longer one
-one-more : {old new : Held} {a : List ℕ} (p : List ℕ) → AppendsFront old new a → AppendsFront old new (a ++ p)
+one-more : {old new : Held} {a : List ℕ} (p : List ℕ) → AppendsPrefix old new a → AppendsPrefix old new (a ++ p)
 one-more p h = grind (arith, append_assoc, h.front, h.rest ++ p)
 
 -- an early return at a text that others would follow
 pub failed : {E : Type 0} {old new : Held} {a : List ℕ} (r : Result (Unit {0}) E) (ps : List (List ℕ))
-    → IsErr r → AppendsFront old new a → WritesText old r new (followed a ps)
+    → IsErr r → AppendsPrefix old new a → WritesText old r new (followed a ps)
 failed r [] e h = grind (arith, common_steps)
 failed r (p ∷ ps) e h = failed r ps e (one-more p h)
 
@@ -46,7 +46,7 @@ appended old mid new (Err e) a b p h = front-after p h
 
 -- a front of the text of an item, after those of the items before it
 pub item-front : (f : ℕ → List ℕ) (xs : List ℕ) (i d : ℕ) {old mid new : Held} → i < length xs
-    → AppendsText old mid (flat_map f (take i xs)) → AppendsFront mid new (f (get_or xs i d)) → AppendsFront old new (flat_map f xs)
+    → AppendsText old mid (flat_map f (take i xs)) → AppendsPrefix mid new (f (get_or xs i d)) → AppendsPrefix old new (flat_map f xs)
 item-front f xs i d less p q =
     let whole : flat_map f (take i xs) ++ f (get_or xs i d) ++ flat_map f (drop (i + 1) xs) ≡ flat_map f xs =
     rw (← take-append-drop (i + 1) xs, flat_map-append, take_more xs i d less) (grind (arith, common_steps)) in
@@ -62,7 +62,7 @@ line-appended line n p q = rw (add-one n) (both-written p q)
 
 -- a front of a line, after those below it
 pub line-front : (line : ℕ → List ℕ) (i n : ℕ) {old mid new : Held} → i < n → AppendsText old mid (lines_below line i)
-    → AppendsFront mid new (line i) → AppendsFront old new (lines_below line n)
+    → AppendsPrefix mid new (line i) → AppendsPrefix old new (lines_below line n)
 unfolding lines_below
 line-front line i zero less p q = absurd (omega arith)
 line-front line i (suc n) less p q = elim (cases_lt i n) [

@@ -29,7 +29,7 @@ use Rattle.group_sim.specs.declared.simulation.Stopped.{Stopped}
 use Rattle.group_sim.specs.declared.simulation.ScriptHalt.{ScriptHalt}
 use Rattle.group_sim.specs.declared.simulation.ScriptHalt.TheVariants as halt
 use Rattle.group_sim.specs.declared.simulation.Simulation.{Simulation}
-use Rattle.group_sim.specs.Texts.{AppendsText, AppendsFront, Held, held}
+use Rattle.group_sim.specs.Texts.{AppendsText, AppendsPrefix, Held, held}
 use Rattle.group_sim.specs.Groups.{group_text, node_at}
 
 -- A moment of a script.
@@ -98,11 +98,11 @@ pub record LeavesWorld (a : Moment) (world : World) (text : List ℕ) (b : Momen
   pub written : AppendsText a.written b.written text
 
 -- A moment after another in which only the world is new, and a prefix of the text was written.
-pub record LeavesFront (a : Moment) (world : World) (text : List ℕ) (b : Moment) : Type 0 where
+pub record LeavesPrefix (a : Moment) (world : World) (text : List ℕ) (b : Moment) : Type 0 where
   pub world_is : b.world ≡ world
   pub passed : b.passed ≡ a.passed
   pub left : b.left ≡ a.left
-  pub written : AppendsFront a.written b.written text
+  pub written : AppendsPrefix a.written b.written text
 
 -- The text of a node's refusal of an event of this line.
 abbrev pub refusal_text : ℕ → NodeFault → List ℕ
@@ -127,7 +127,7 @@ HappensAt number e a (Err (halt.For (Some f))) b = IsRefused a.world e.act f × 
 HappensAt number e a (Err (halt.For None)) b = ⊥
 HappensAt number e a (Err halt.Unwritten) b =
     (world : World) × (done : Done) × Goes a.world e done world
-    × LeavesFront a world (event_text number done) b
+    × LeavesPrefix a world (event_text number done) b
 
 -- ---- a settle
 
@@ -196,7 +196,7 @@ Settles number size a r b =
 abbrev pub Shows : ℕ → Task
 Shows size a (Ok x) b = LeavesWorld a a.world (group_text a.world size) b
 Shows size a (Err (halt.For why)) b = ⊥
-Shows size a (Err halt.Unwritten) b = LeavesFront a a.world (group_text a.world size) b
+Shows size a (Err halt.Unwritten) b = LeavesPrefix a a.world (group_text a.world size) b
 
 -- The task of a line of this number.
 abbrev pub Says : ℕ → ℕ → Line → Task

@@ -4,13 +4,14 @@ use Rattle.std.specs.Io.KnownBytes.{Appends}
 use Rattle.base.specs.Calls.{Mut}
 use Rattle.base.specs.Faults.{HasRisen}
 
--- What is known of a writer: the bytes that it holds, where they are known, and how many of its
+-- What is known of a writer: the bytes that it holds, if they are known, and how many of its
 -- writes have failed or taken nothing.
 pub record Held : Type 0 where
   pub bytes : Option (List ℕ)
   pub faults : ℕ
 
--- What is known of a writer: what it holds, and how many of its writes have failed.
+-- What is known of a writer: what it holds, and how many of its writes have failed or
+-- taken nothing.
 abbrev pub held : {W : Type 0} → (W → Option (List ℕ)) → (W → ℕ) → W → Held
 held contents faults writer = record { bytes = contents writer; faults = faults writer }
 
@@ -21,7 +22,7 @@ pub record AppendsText (old new : Held) (text : List ℕ) : Type 0 where
 
 -- A prefix of a text was appended, perhaps all of it, and then a write failed.
 -- Forbids: a text that is not written whole where no write fails.
-pub record AppendsFront (old new : Held) (text : List ℕ) : Type 0 where
+pub record AppendsPrefix (old new : Held) (text : List ℕ) : Type 0 where
   pub front : List ℕ
   pub rest : List ℕ
   pub whole : text ≡ front ++ rest
@@ -31,7 +32,7 @@ pub record AppendsFront (old new : Held) (text : List ℕ) : Type 0 where
 -- What a write of a text does: it appends the text, or a prefix of it, if a write has failed.
 abbrev pub WritesText : {E : Type 0} → Held → Result (Unit {0}) E → Held → List ℕ → Type 0
 WritesText old r new text =
-    MatchResult r (λ _. AppendsText old new text) (λ _. AppendsFront old new text)
+    MatchResult r (λ _. AppendsText old new text) (λ _. AppendsPrefix old new text)
 
 -- A call that writes a text to a writer that it borrows.
 abbrev pub PutsText : {W E : Type 0} → (W → Option (List ℕ)) → (W → ℕ) → Mut W

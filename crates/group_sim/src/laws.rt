@@ -11,7 +11,7 @@ ghost use Rattle.group_sim.specs.Moments.{DeliversOne, HappensAt, Moment, Shows}
 /// An event that can happen is refused only as `Memory`, a delivery that can be made is not one too
 /// many for a `settle`, and a `show` halts only at a failed write.
 ///
-/// So none of these halts where it can be done, unless memory runs out or a write fails.
+/// So none of these halts if it can be done, unless memory runs out or a write fails.
 pub fn halts_have_a_cause()
     ensures refused { (number : ℕ) (e : Event) (a b c : Moment) (f : WorldFault)
         → HappensAt number e a (Ok tt) b → HappensAt number e a (Err (halt.For (Some f))) c

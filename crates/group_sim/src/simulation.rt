@@ -107,7 +107,7 @@ impl Simulation<'_> {
     }
 
     /// Performs an act of a settle, whose save does not fail.
-    fn go_on<W: ByteWriter>(
+    fn happen_kept<W: ByteWriter>(
         &mut self,
         writer: &mut W,
         line: usize,
@@ -148,7 +148,7 @@ impl Simulation<'_> {
             return Err(ScriptHalt::For(None));
         }
         self.left -= 1;
-        self.go_on(writer, line, Act::Deliver(message, node))
+        self.happen_kept(writer, line, Act::Deliver(message, node))
     }
 
     /// Delivers a message to those whom it is for and who are up, in ascending order.
@@ -215,7 +215,7 @@ impl Simulation<'_> {
     {
         let unreleased = self.unreleased(node);
         for _ in 0..unreleased {
-            self.go_on(writer, line, Act::Release(node))?;
+            self.happen_kept(writer, line, Act::Release(node))?;
         }
         Ok(())
     }
@@ -234,7 +234,7 @@ impl Simulation<'_> {
         if !self.is_up(node) {
             return Ok(());
         }
-        self.go_on(writer, line, Act::Run(node, SETTLE_STEPS))?;
+        self.happen_kept(writer, line, Act::Run(node, SETTLE_STEPS))?;
         self.release_all(writer, line, node)
     }
 

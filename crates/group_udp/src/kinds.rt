@@ -7,8 +7,7 @@ ghost use Rattle.group_protocol.specs.Known.{Known};
 ghost use Rattle.group_protocol.specs.Protocol.{on_message};
 ghost use Rattle.group_udp.specs.Kinds.{IsAsk, IsSaving};
 
-/// The index in a datagram of its kind.
-const KIND: usize = 3;
+use crate::header::KIND;
 
 /// The kind of an Ask.
 const ASK: u8 = 7;

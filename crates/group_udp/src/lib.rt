@@ -12,6 +12,7 @@
 //! a run ended early.
 #![tactic(auto)]
 
+mod header;
 mod kinds;
 pub mod laws;
 pub mod limits;

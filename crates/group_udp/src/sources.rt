@@ -3,10 +3,8 @@
 ghost use Rattle.std.specs.Prelude.{◌↔◌, ◌≡◌, if◌then◌else◌, length, IsTrue};
 ghost use Rattle.group_udp.specs.Sources.{IsFromSender, address_at};
 
+use crate::header::SENDER;
 use std::net::SocketAddr;
-
-/// The index in a datagram of its sender's number.
-const SENDER: usize = 4;
 
 /// Returns the address of a node, if there is one. `addresses` are those of the nodes, node 1
 /// first.

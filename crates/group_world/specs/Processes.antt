@@ -79,7 +79,7 @@ IsCarried group sent (e ∷ log) = HearsOf group sent e.deed × IsCarried group 
 -- node 1 first.
 -- The log is in one order of time. Each entry is of a node of the group. The entries of each node
 -- are a history of its process, over a store that keeps its record. What is heard was sent before.
--- Allows: any order of the deeds of two nodes, where one does not hear what the other sent.
+-- Allows: any order of the deeds of two nodes, if one does not hear what the other sent.
 pub record IsLog (w : World) (log : List Entry) (now : List Member) : Type 0 where
   pub places : length now ≡ length w.members
   pub among : AllByRecursion (λ e. (m : Member) × (member_at now e.node ≡ Some m)) log

@@ -44,7 +44,8 @@ pub record IsMemberSound (p : Parts) (me : Me) (sent : Sent) (typed : List Key)
   pub backed : IsRecordBacked sent me.node m.kept
   pub running : IfSome m.node (IsRunningSound p me sent typed m.kept)
 
--- A world whose nodes are sound, and in which each datagram spells a message.
+-- A world of an allowed size and session, with as many nodes, which are sound, and in which each
+-- datagram spells a message.
 pub record IsSound (w : World) : Type 0 where
   pub size : IsSize w.group.size
   pub session : IsGroup w.group

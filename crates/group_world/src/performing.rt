@@ -21,7 +21,7 @@ use std::alloc::Global;
 ///
 /// The contract is the main theorem. Whatever the events, no two nodes have learned different
 /// values for one place. What is learned is chosen, and was typed or is a no-op. Each console holds
-/// a prefix of the program's output on the chosen input; so of two consoles one holds a prefix of
+/// a prefix of the program's output on the chosen input; so of two consoles one is a prefix of
 /// the other. No released byte comes too early. No key is read twice, and the keys of one start of
 /// one node are read in the order in which they were typed, with none left out between them.
 pub fn run<'a>(

@@ -88,6 +88,9 @@ impl<'a> World<'a> {
     /// up, else only with `Memory`. Then nothing has changed. After a save that fails the node is
     /// down, nothing was sent, and the next start finds the old record or the changed one. A crash
     /// leaves the record and the console.
+    ///
+    /// Whatever happened before, the claims of the main theorem hold of the group after it. What
+    /// was learned and shown before stays, also if the event is refused.
     #[tactic(none)]
     pub fn apply(&mut self, event: &Event) -> Result<Done, WorldFault>
         ensures applies { Applies self.old event.now result self.new }

@@ -274,9 +274,11 @@ impl<S: Store> Acceptor<S> {
         store
     }
 
-    /// Gives `plan` to the store: how its next save is to fail, or `None`. A store that fails at
-    /// will then has it. The acceptor's node and record, whether it is closed, the record of an
-    /// honest store, what a restart may load of it, and the count of faults stay.
+    /// Gives `plan` to the store: its next save is to fail and leave the changed record
+    /// (`Some(true)`) or the old one (`Some(false)`), or not to fail (`None`). A store that fails
+    /// at will then has it. The acceptor's node and record, whether it is closed, whose store it
+    /// is, the record of an honest store, and the count of faults stay. Of an honest store a
+    /// restart may load no more than before.
     pub fn fail_next(&mut self, plan: Option<bool>)
         ensures same { S.kind.honest
             → (S.kind.state self.new.store).stored ≡ (S.kind.state self.old.store).stored }

@@ -69,8 +69,9 @@ pub trait Store {
         ensures { result ≡ (kind.state self.now).faults };
 
     /// Gives a store that fails at will this plan for its next save: a fault that leaves the
-    /// changed record (`Some(true)`) or the old one (`Some(false)`), or no fault (`None`). The
-    /// record of an honest store, what a restart may load of it, and the count of faults stay.
+    /// changed record (`Some(true)`) or the old one (`Some(false)`), or no fault (`None`). Whose
+    /// store it is, the record of an honest store, and the count of faults stay. Of an honest store
+    /// a restart may load no more than before.
     fn fail_next(&mut self, plan: Option<bool>)
         ensures same { kind.honest → (kind.state self.new).stored ≡ (kind.state self.old).stored }
         ensures may { kind.honest → MayLoadNoMore kind self.old self.new }

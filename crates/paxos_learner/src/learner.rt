@@ -207,10 +207,10 @@ impl Learner {
         Ok(Heard::Counted)
     }
 
-    /// Hears that a node has learned `value` at `place` (`heard_tell`). Returns `Learned` if this
-    /// learner has now learned it. Returns `Passed` if nothing has changed: the place was learned
-    /// before, or is 1,024 or more above the front. Fails only with `Memory`, and only where it
-    /// would learn; then nothing has changed.
+    /// Hears that a node has learned `value` at `place`, at most 65,535 (`heard_tell`). Returns
+    /// `Learned` if this learner has now learned it. Returns `Passed` if nothing has changed: the
+    /// place was learned before, or is 1,024 or more above the front. Fails only with `Memory`, and
+    /// only if it would learn; then nothing has changed.
     ///
     /// Room is made as for 32 keys at each place from the front up to the learned one.
     pub fn on_tell(&mut self, place: u32, value: Value) -> Result<Heard, LearnerFault>

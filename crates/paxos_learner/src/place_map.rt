@@ -57,7 +57,7 @@ impl<V: Copy> PlaceMap<V> {
         Some((index, *value))
     }
 
-    /// Puts `value` at the place that has this index. It takes no search.
+    /// Puts `value` at the place that has this index, which a `find` returned. It takes no search.
     pub fn put_at(&mut self, index: usize, value: V)
         requires { index < length self.old.places }
         ensures { self.new.map ≡ insert self.old.map (slice_index self.old.places index) value }
@@ -92,7 +92,8 @@ impl<V: Copy> PlaceMap<V> {
         Ok(())
     }
 
-    /// Removes the value at `place`, if there is one.
+    /// Removes the value at `place`, if there is one. Indices that were found before may be of
+    /// other places then.
     pub fn remove(&mut self, place: u32)
         ensures { self.new.map ≡ remove self.old.map place }
     {

@@ -4,7 +4,8 @@ ghost use Rattle.paxos_msg.specs.Ballots.{count_of};
 ghost use Rattle.paxos_proposer.specs.Proposer.{is_covered_by};
 ghost use Rattle.paxos_msg.specs.declared.limits.TheConstants.{MOST_NODES};
 
-/// Returns how many of the nodes 1 to `size` have promised beyond `place`.
+/// Returns how many of the nodes 1 to `size`, at most 9, have promised `place`: their coverage is
+/// above it.
 #[tactic(auto, using(crate::proofs::CountingCoverage::count_next))]
 pub(crate) fn count_covering(size: u8, coverages: &[u32; 10], place: u32) -> usize
     requires { size ≤ MOST_NODES }

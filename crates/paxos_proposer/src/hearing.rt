@@ -32,7 +32,8 @@ fn hear_one(low: u32, vote: Vote, kept: &mut KeptVotes)
     kept.put(greater(before, vote));
 }
 
-/// Keeps these votes too, at most 8, one after another. After an error nothing has changed.
+/// Hears these votes, at most 8, one after another, each as `hear_one` does (`heard`). After an
+/// error the kept votes are as before.
 pub(crate) fn hear_votes(
     low: u32,
     votes: LentVotes<'_>,

@@ -81,7 +81,8 @@ impl KeptVotes {
         self.reports.reserve(count)
     }
 
-    /// Keeps `vote` in the place of the one at its place, if there is one. There is room for it.
+    /// Keeps `vote`, and drops the one that was kept at its place, if there was one. There is room
+    /// for a vote, and the call takes at most that.
     pub fn put(&mut self, vote: Vote)
         requires { 0 < self.old.room }
         ensures votes { self.new.votes ≡ with_vote self.old.votes vote }

@@ -246,7 +246,6 @@ impl Proposer {
         ballot == self.ballot
     }
 
-    /// Drops the ballot, with all that was heard and proposed under it. Nothing is proposed under
-    /// it any more.
+    /// Drops the ballot: consumes the proposer, with all that was heard and proposed under it.
     pub fn drop_ballot(self) {}
 }

@@ -1,5 +1,6 @@
 """What tools/check-docs says of pages that are too long, of lines that are too wide, of links that
-lead nowhere, and of sources that a page shows: of pages that are made here."""
+lead nowhere, of sources that a page shows, and of commands that a list lacks: of pages that are
+made here."""
 
 import os
 import sys
@@ -8,7 +9,7 @@ from ..checks import Checks
 from ..program import TOP
 
 sys.path.insert(0, os.path.join(TOP, "tools"))
-from doc_checks import lengths, links, pages, tree, wrapped
+from doc_checks import commands, lengths, links, pages, tree, wrapped
 
 WORD = "word "
 
@@ -87,6 +88,36 @@ class OfWrapping(OfPages):
             self.assertEqual(look(False), [
                 "docs/ONE.md:1: is not wrapped at 100 columns; tools/check-docs --write wraps it"])
             self.assertEqual(look(True) + look(False), [])
+
+
+class OfCommands(OfPages):
+    """The lists of commands, of a program that has `run` and `sim`."""
+
+    def said(self, variants=("Run", "Sim"), known=("Run", "Sim"), listed=("run", "sim"),
+             rows=("run", "sim")):
+        enum = "".join(f"    {it},\n" for it in variants)
+        names = "".join(f"    Name::{it},\n" for it in known)
+        source = f"pub enum Name {{\n{enum}}}\nstatic ALL: [Name; 2] = [\n{names}];\n"
+        self.put(commands.SOURCE, source)
+        self.put(commands.LISTS[0], f"COMMANDS = {listed!r}\n")
+        self.put(commands.LISTS[1], "COMMANDS = ('run', 'sim')\n")
+        self.put("docs/FORMATS.md", "".join(f"| `{it} FILE` | what it does |\n" for it in rows))
+        return self.faults(commands.check)
+
+    def test_commands(self):
+        with self.check("lists that have each command"):
+            self.assertEqual(self.said(), [])
+        with self.check("a list that lacks a command"):
+            self.assertEqual(self.said(listed=("run",)), [
+                "tools/packing/manual.py: COMMANDS has run, and the program run, sim"])
+        with self.check("a list in another order"):
+            self.assertEqual(len(self.said(listed=("sim", "run"))), 1)
+        with self.check("a command that is not in ALL"):
+            self.assertIn(f"{commands.SOURCE}: net is not in ALL, so that it is no command",
+                          self.said(variants=("Run", "Sim", "Net")))
+        with self.check("a command without a row"):
+            self.assertEqual(self.said(rows=("run",)), [
+                "docs/FORMATS.md: has no row for the command sim"])
 
 
 class OfLengths(OfPages):

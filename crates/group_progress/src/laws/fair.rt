@@ -1,4 +1,5 @@
-//! The laws of endless runs: under one leading node and a fair network each of them goes on.
+//! The laws of endless runs: under one leading node and a fair network each of them goes on. A
+//! *fair run* is here one that is led (`IsLed`) and fair (`IsFair`).
 ghost use Rattle.std.specs.Prelude.{Contains, Some, ℕ, suc, ◌<◌, ◌≤◌, Bool, IsTrue, List, ◌≡◌};
 ghost use Rattle.pcode_file.specs.Parts.{Parts};
 ghost use Rattle.paxos_msg.specs.declared.message.Group.{Group};
@@ -18,18 +19,7 @@ ghost use Rattle.group_progress.specs.Fair.{AllHaveLearned, AllHoldPromise, AllI
 ghost use Rattle.group_progress.specs.Stuck.{HasStuckRun, HearsAll, HearsAllButSubmits, HearsAndTicks, IsLedCalmly, IsLedOpenly};
 ghost use Rattle.group_progress.specs.GoingOn.{AllHaveRead};
 
-use group_protocol::laws::{
-    calls_keep_what_is_learned, waiting_keys_are_a_row, what_goes_out_fits,
-};
-use group_rules::laws::{claims_follow, next_keys_are_new};
-use group_world::laws::deeds_keep_what_holds;
-use paxos_learner::laws::{
-    input_grows, key_tests_are_exact, keys_are_read_once, learned_stays, one_front,
-    values_are_learned,
-};
-use paxos_msg::grammar::spelling_is_read;
-use paxos_msg::laws::tests_are_exact;
-use pcode_machine::laws::{output_only_grows, prefixes_are_ordered};
+use crate::laws::below::what_lies_below;
 
 /// In each fair run all nodes of the majority promise the leading node's ballot, and from then on
 /// none above it.
@@ -40,13 +30,7 @@ pub fn fair_runs_promise()
         → IsMajority w.group.size members → IsLed members leader b run → IsFair members run
         → Later 0 (λ t. (u : ℕ) → t ≤ u → AllHoldPromise members b w.group.size (run.world u)) }
 {
-    deeds_keep_what_holds();
-    next_keys_are_new();
-    what_goes_out_fits();
-    waiting_keys_are_a_row();
-    one_front();
-    spelling_is_read();
-    tests_are_exact();
+    what_lies_below();
 }
 
 /// In each fair run the node that campaigned comes to lead: it proposes under its ballot, and knows
@@ -59,13 +43,7 @@ pub fn fair_runs_are_led()
         → Later 0 (λ t. (among : ℕ → Bool) × IsMajority w.group.size among
         × ((u : ℕ) → t ≤ u → IsLeading among b leader (run.world u))) }
 {
-    deeds_keep_what_holds();
-    next_keys_are_new();
-    what_goes_out_fits();
-    waiting_keys_are_a_row();
-    one_front();
-    spelling_is_read();
-    tests_are_exact();
+    what_lies_below();
 }
 
 /// In each fair run what one node of the majority has read is read by each of them, from some
@@ -79,22 +57,11 @@ pub fn fair_runs_catch_up()
         → Later (suc n) (λ t. (u : ℕ) → t ≤ u → AllHaveRead members w.group.size
         (keys_in_order (front_values q.known.learner.learned)) (run.world u)) }
 {
-    deeds_keep_what_holds();
-    claims_follow();
-    next_keys_are_new();
-    what_goes_out_fits();
-    waiting_keys_are_a_row();
-    calls_keep_what_is_learned();
-    input_grows();
-    keys_are_read_once();
-    one_front();
-    values_are_learned();
-    spelling_is_read();
-    tests_are_exact();
+    what_lies_below();
 }
 
-/// In each fair run the leading node proposes what it keeps of earlier votes: from some moment on
-/// its next place is above each vote that it has kept.
+/// In each fair run the leading node gets past the earlier votes that it keeps: from some moment on
+/// its next place is above the place of each vote that it kept at a moment after its campaign.
 pub fn fair_runs_propose()
     ensures { (p : Parts) (group : Group) (events : List Event) (w : World) (members : ℕ → Bool)
         (leader : ℕ) (b : Ballot) (run : Endless w) (n : ℕ) (m : Member) (q : Running)
@@ -105,24 +72,11 @@ pub fn fair_runs_propose()
         → Contains proposer.kept vote
         → Later (suc n) (λ t. (u : ℕ) → t ≤ u → HasProposedPast b vote.place (run.world u) leader) }
 {
-    deeds_keep_what_holds();
-    claims_follow();
-    next_keys_are_new();
-    what_goes_out_fits();
-    waiting_keys_are_a_row();
-    calls_keep_what_is_learned();
-    input_grows();
-    key_tests_are_exact();
-    keys_are_read_once();
-    learned_stays();
-    one_front();
-    values_are_learned();
-    spelling_is_read();
-    tests_are_exact();
+    what_lies_below();
 }
 
-/// In each fair run what the leading node has proposed is learned by each node of the majority,
-/// from some moment on.
+/// In each fair run each place below the leading node's next one, at a moment after its campaign,
+/// is learned by each node of the majority, from some moment on.
 pub fn fair_runs_learn()
     ensures { (p : Parts) (group : Group) (events : List Event) (w : World) (members : ℕ → Bool)
         (leader : ℕ) (b : Ballot) (run : Endless w) (n : ℕ) (m : Member) (q : Running)
@@ -133,20 +87,7 @@ pub fn fair_runs_learn()
         → Later (suc n) (λ t. (u : ℕ) → t ≤ u
         → AllHaveLearned members w.group.size (next_of proposer) (run.world u)) }
 {
-    deeds_keep_what_holds();
-    claims_follow();
-    next_keys_are_new();
-    what_goes_out_fits();
-    waiting_keys_are_a_row();
-    calls_keep_what_is_learned();
-    input_grows();
-    key_tests_are_exact();
-    keys_are_read_once();
-    learned_stays();
-    one_front();
-    values_are_learned();
-    spelling_is_read();
-    tests_are_exact();
+    what_lies_below();
 }
 
 /// In each fair run each key that waits at a node of the majority is read by each of them, from
@@ -158,20 +99,7 @@ pub fn fair_runs_read()
         → IsMajority w.group.size members → IsLed members leader b run → IsFair members run
         → AllIsRead members run n }
 {
-    deeds_keep_what_holds();
-    claims_follow();
-    next_keys_are_new();
-    what_goes_out_fits();
-    waiting_keys_are_a_row();
-    calls_keep_what_is_learned();
-    input_grows();
-    key_tests_are_exact();
-    keys_are_read_once();
-    learned_stays();
-    one_front();
-    values_are_learned();
-    spelling_is_read();
-    tests_are_exact();
+    what_lies_below();
 }
 
 /// In each run that is led, a node of the majority that runs and releases again and again shows
@@ -183,16 +111,7 @@ pub fn fair_runs_show()
         → IsLed members leader b run → IsTrue (members i) → KeepsPlaying i run
         → AllIsShown run i n }
 {
-    deeds_keep_what_holds();
-    claims_follow();
-    next_keys_are_new();
-    what_goes_out_fits();
-    waiting_keys_are_a_row();
-    calls_keep_what_is_learned();
-    input_grows();
-    output_only_grows();
-    prefixes_are_ordered();
-    spelling_is_read();
+    what_lies_below();
 }
 
 /// Fair runs go on. In each endless run in which one node leads a majority, each node of it ticks
@@ -203,22 +122,7 @@ pub fn fair_runs_go_on()
     ensures { (p : Parts) (group : Group) → IsSize group.size → IsGroup group
         → FairRunsGoOn p group }
 {
-    deeds_keep_what_holds();
-    claims_follow();
-    next_keys_are_new();
-    what_goes_out_fits();
-    waiting_keys_are_a_row();
-    calls_keep_what_is_learned();
-    input_grows();
-    key_tests_are_exact();
-    keys_are_read_once();
-    learned_stays();
-    one_front();
-    values_are_learned();
-    spelling_is_read();
-    tests_are_exact();
-    output_only_grows();
-    prefixes_are_ordered();
+    what_lies_below();
 }
 
 /// Some run is led and fair, for each program and each group: the premises of the laws of fair runs
@@ -226,43 +130,25 @@ pub fn fair_runs_go_on()
 pub fn some_run_is_fair()
     ensures { (p : Parts) (group : Group) → IsSize group.size → IsGroup group → HasFairRun p group }
 {
-    deeds_keep_what_holds();
-    next_keys_are_new();
-    what_goes_out_fits();
-    waiting_keys_are_a_row();
-    one_front();
-    spelling_is_read();
-    tests_are_exact();
+    what_lies_below();
 }
 
 /// Fair runs need ticks: in some run that is led, all that the nodes of the majority send to each
-/// other is heard, but nobody ticks, and a key that waits is never read.
+/// other is heard, and yet a key that waits is never read. In the proof's run nobody ticks.
 pub fn fair_runs_need_ticks()
     ensures { (p : Parts) (group : Group) → IsSize group.size → IsGroup group
         → HasStuckRun IsLedCalmly HearsAll p group }
 {
-    deeds_keep_what_holds();
-    next_keys_are_new();
-    what_goes_out_fits();
-    waiting_keys_are_a_row();
-    one_front();
-    spelling_is_read();
-    tests_are_exact();
+    what_lies_below();
 }
 
-/// Fair runs need each kind of message: in some run that is led, all nodes tick again and again and
-/// all but the Submits is heard, and a key that waits is never read.
+/// Fair runs need Submits: in some run that is led, each node of the majority ticks again and again
+/// and hears all that one of them sends to it but Submits, and a key that waits is never read.
 pub fn fair_runs_need_submits()
     ensures { (p : Parts) (group : Group) → IsSize group.size → IsGroup group
         → HasStuckRun IsLedCalmly HearsAllButSubmits p group }
 {
-    deeds_keep_what_holds();
-    next_keys_are_new();
-    what_goes_out_fits();
-    waiting_keys_are_a_row();
-    one_front();
-    spelling_is_read();
-    tests_are_exact();
+    what_lies_below();
 }
 
 /// Fair runs need peace: in some run of a group of three or more that is fair, and led but for an
@@ -271,11 +157,5 @@ pub fn fair_runs_need_peace()
     ensures { (p : Parts) (group : Group) → IsSize group.size → IsGroup group → 1 < group.size
         → HasStuckRun IsLedOpenly HearsAndTicks p group }
 {
-    deeds_keep_what_holds();
-    next_keys_are_new();
-    what_goes_out_fits();
-    waiting_keys_are_a_row();
-    one_front();
-    spelling_is_read();
-    tests_are_exact();
+    what_lies_below();
 }

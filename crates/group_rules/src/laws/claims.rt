@@ -54,9 +54,9 @@ pub fn steps_show_more()
     ensures { (w v : WorldState) (i : ℕ) (deed : Deed) → WorldStep w i deed v → ConsolesGrow w v }
 {}
 
-/// The claims follow from what always holds; and of a node's console and of what its machine has
-/// written one is a prefix of the other. What holds lasts as deeds lead on, and what was learned
-/// and shown stays.
+/// The claims follow from what always holds. Of a node's console and what its machine has written,
+/// one is a prefix of the other. What holds lasts as deeds lead on, and what was learned and shown
+/// stays.
 pub fn claims_follow()
     ensures learned_agree { (w : WorldState) → HoldsByRules w → LearnedAgree w }
     ensures learned_chosen { (w : WorldState) → HoldsByRules w → LearnedChosen w }
@@ -114,11 +114,11 @@ pub fn next_keys_are_new()
 /// - No two nodes have learned different values for one place.
 /// - What is learned is chosen, and was typed or is a no-op.
 /// - Each console holds a prefix of the program's output on the chosen input; so of two consoles
-/// one holds a prefix of the other. What a node has released is on its console.
+/// one is a prefix of the other. What a node has released is on its console.
 /// - No released byte comes too early for its console. If the console has shown a byte of that
 /// number, it is the same byte.
-/// - Each typed key is read once, and the keys of one start of one node are read in the order in
-/// which they were typed.
+/// - No key is read twice, and the keys of one start of one node are read in the order in which
+/// they were typed, with none left out between them.
 /// - What was learned stays, also at another node and after crashes, and each console only grows.
 pub fn headline()
     ensures learned_agree { AlwaysByRules LearnedAgree }

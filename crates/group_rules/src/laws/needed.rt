@@ -29,9 +29,9 @@ pub fn rules_on_order_are_needed()
         × LeadsUnder (StepWithout Cause) (one_new p) started_hearing_deeds w × ¬ SerialsInOrder w }
 {}
 
-/// Without a clause on starts, a group of one node comes to choose two keys with one name: a typed
-/// key is of the present start; a start is counted; and a save that fails leaves the old record or
-/// the changed one.
+/// Without a clause on starts, a group of one node comes to choose two keys with one name. The
+/// clauses: a typed key is of the present start; a start is counted; and a save that fails leaves
+/// the old record or the changed one.
 pub fn rules_on_starts_are_needed()
     ensures start_of_key { (p : Parts) → (w : WorldState)
         × LeadsUnder (StepWithout Start_of_key) (one_new p) (typed_deeds twin_batch) w

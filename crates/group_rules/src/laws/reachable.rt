@@ -66,9 +66,9 @@ pub fn two_starts()
         × AreInOrder (keys_in_order (first_batch ∷ second_batch ∷ [])) }
 {}
 
-/// Batches may overlap, and begin with any serial. In a group of one node the first key, the first
-/// two, and the second and third are chosen one after the other, so that two keys are chosen twice.
-/// Each is read once, in order.
+/// Batches may overlap: one may begin with a key that an earlier one has. In a group of one node
+/// the first key, the first two, and the second and third are chosen one after the other, so that
+/// two keys are chosen twice. Each is read once, in order.
 pub fn batches_may_overlap()
     ensures { (p : Parts) → (w : WorldState) × LeadsByRules (one_new p) overlapping_deeds w
         × AreChosen w.size w.sent (first_batch ∷ first_two ∷ last_two ∷ [])

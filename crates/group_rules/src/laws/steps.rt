@@ -69,7 +69,7 @@ pub fn wrong_ticks()
 {}
 
 /// A message but a Prepare or an Accept changes nothing in the record, whatever it says. At a
-/// Prepare a node does not vote, for what an earlier Accept has proposed.
+/// Prepare a node does not vote for what an earlier Accept has proposed.
 pub fn wrong_causes()
     // MayCause at a Prepare.
     ensures at_prepare { (b : Ballot) (from : ℕ) → ¬ HearingLeaves (Prepare b from)
@@ -140,9 +140,9 @@ pub fn wrong_campaigns()
 {}
 
 /// A node falls at a save that fails. Its record is the old one or the changed one, and no third:
-/// neither with a promise of another node's ballot nor with two starts. It sends nothing, keeps its
-/// console, and was up before. What it tried to save it might have saved. It does not fall where it
-/// saves nothing.
+/// neither with a promise of another node's ballot nor with two more starts. It sends nothing and
+/// keeps its console. It was up before, and at a start down. It was allowed to save what it tried
+/// to save. It does not fall if it saves nothing.
 pub fn wrong_falls()
     // Falls.kept.
     ensures to_another_promise { ¬ WorldStep (nine_keep kept_third) 9 deed.Campaign
@@ -210,7 +210,8 @@ pub fn wrong_starts()
 {}
 
 /// Of a machine that has written three bytes, of which the first was released, the second is
-/// released next, alone. It is counted, and the console shows it once, after the first.
+/// released next, alone. It is counted, and the console shows it once, after the first. No byte is
+/// shown over a gap, and none is counted if none waits.
 pub fn wrong_releases()
     // Releases.left: the byte.
     ensures another_byte { ¬ WorldStep (nine_show (65 ∷ []) (up_written (65 ∷ 66 ∷ 67 ∷ []) 1))
@@ -301,7 +302,7 @@ pub fn wrong_reads()
     step_only_adds();
 }
 
-/// No event of node 9 takes node 6 down with it: no tick, run, release or crash, no start and no
+/// No deed of node 9 takes node 6 down with it: no tick, run, release or crash, no start and no
 /// start that fails. A tick changes neither the program nor the number of nodes.
 pub fn wrong_neighbours()
     // MakesCall.rest.
@@ -401,9 +402,9 @@ pub fn wrong_sends()
         ++ sent_by_ninth (Accepted (ballot_by 7 40) 700 (batch_40 65)) ∷ [])) }
 {}
 
-/// Steps that are right, one change away from wrong ones: a tick that changes nothing, and one at
-/// which a key leaves that is read; a key that is typed; a promise at a Prepare, and a vote at an
-/// Accept; a campaign.
+/// Steps that are right, one change away from wrong ones: a tick that changes nothing, one at which
+/// a key leaves that is read, and one that submits the first key that waits; a key that is typed; a
+/// promise at a Prepare, and a vote at an Accept; a campaign.
 pub fn right_calls()
     ensures ticks { (up : Up) → WorldStep (nine_up up) 9 deed.Tick (nine_up up) }
     ensures key_leaves { WorldStep

@@ -25,10 +25,10 @@ use pcode_machine::laws::output_only_grows;
 /// failed and left the changed record.
 ///
 /// A node that is down does not tick, take a byte, campaign, run, release or crash, and one that is
-/// up does not start. A group of three has no node 4, one of nine no node 10, and none a node 0. An
-/// idle node sends and types nothing, and a run sends nothing; a tick sends its Ask, and sends it
-/// once. No byte is 256, and the first key has the serial 1. After a log there are as many nodes as
-/// before, and a node that did nothing is as before.
+/// up does not start. A group of three has no node 4, one of nine no node 10, and one of five no
+/// node 0. An idle node sends and types nothing, and a run sends nothing; a tick sends its Ask, and
+/// sends it once. No byte is 256, and the first key has the serial 1. After a log there are as many
+/// nodes as before, and a node that did nothing is as before.
 pub fn wrong_logs()
     ensures answer_first { IsNoLog five_nodes (two_start (answers ∷ campaigning ∷ [])) }
     ensures answer_after { IsSomeLog five_nodes (two_start (campaigning ∷ answers ∷ [])) }
@@ -82,10 +82,10 @@ pub fn wrong_clocks()
     spelling_is_read();
 }
 
-/// What are not the events of an entry, and beside it what is one. Node 9 of nine takes the byte
-/// 255: it is one event, at that node, of that byte, and with the save that the entry has. An idle
-/// node has no event. Node 4 hears the Prepare of node 2, which is message 0: it is no delivery of
-/// another message.
+/// Lists that are not the events of an entry, and beside them right ones. Node 9 of nine takes the
+/// byte 255: it is one event, at that node, of that byte, and with the save that the entry has. An
+/// idle node has no event. Node 4 hears the Prepare of node 2, which is message 0: it is no
+/// delivery of another message.
 pub fn wrong_events()
     ensures press { AreEventsOf nine_nodes [] (presses ∷ []) (press_event 9 255 Kept) }
     ensures other_node { ¬ AreEventsOf nine_nodes [] (presses ∷ []) (press_event 8 255 Kept) }

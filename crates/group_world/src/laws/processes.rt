@@ -44,7 +44,7 @@ pub fn events_are_processes()
 {}
 
 /// A log in the order of time, by a clock, is carried if each deed hears only what a deed sent that
-/// began earlier. A deed begins when its receive has returned, and sends then. So where a network
+/// began earlier. A deed begins when its receive has returned, and sends then. So if a network
 /// carries what was sent, a clock that is the same for all nodes gives such a log.
 pub fn time_orders_logs()
     ensures { (group : Group) (sent : List Datagram) (log : List Timed) → IsByTime log
@@ -82,9 +82,9 @@ pub fn processes_show()
 }
 
 /// Between two parts of a log there are nodes, which the first part leaves and from which the
-/// second one goes on. So each front of a log is a log, and what holds of every log holds at each
+/// second one goes on. So each prefix of a log is a log, and what holds of every log holds at each
 /// moment of one.
-pub fn fronts_of_logs()
+pub fn prefixes_of_logs()
     ensures { (w : World) (log more : List Entry) (now : List Member) → IsLog w (log ++ more) now
         → HasMoment w log more now }
 {}

@@ -25,7 +25,7 @@ use pcode_machine::laws::output_only_grows;
 /// - No two nodes have learned different values for one place.
 /// - What is learned is chosen, and was typed or is a no-op.
 /// - Each console holds a prefix of the program's output on the chosen input; so of two consoles
-/// one holds a prefix of the other.
+/// one is a prefix of the other.
 /// - No released byte comes too early for its console. If the console has shown a byte of that
 /// number, it is the same byte.
 /// - No key is read twice, and the keys of one start of one node are read in the order in which

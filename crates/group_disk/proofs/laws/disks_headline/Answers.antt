@@ -30,7 +30,7 @@ alike c p group restarts log now other size session =
 moments : goal.After-prefixes_are_ordered → (p : Parts) (group : Group) (restarts : ℕ → List NodeStart) (log more : List Entry)
     → IsDiskLog p group restarts (log ++ more) → HaveMomentOfDisks p group restarts log more
 moments c p group restarts log more h =
-    let (cut, before, first) = c.fronts_of_disks.ensures p group restarts log more h in (
+    let (cut, before, first) = c.prefixes_of_disks.ensures p group restarts log more h in (
       cut,
       record { before = before; all = h; first = first },
       disks_leave c.disk_logs_are_kept.ensures c.runs_headline.ensures.nodes p group cut log before,
@@ -42,7 +42,7 @@ returns c =
     let terminals = c.terminals_are_consoles.ensures in
     record {
       nodes = disks_leave c.disk_logs_are_kept.ensures claims.nodes;
-      fronts = c.fronts_of_disks.ensures;
+      prefixes = c.prefixes_of_disks.ensures;
       moments = moments c;
       as_run = up_as_run;
       alike = alike c;

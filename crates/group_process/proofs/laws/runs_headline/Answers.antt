@@ -45,7 +45,7 @@ returns c =
     let terminals = c.terminals_are_consoles.ensures in
     record {
       nodes = c.logs_leave_nodes.ensures.nodes;
-      fronts = c.fronts_of_runs.ensures;
+      prefixes = c.prefixes_of_runs.ensures;
       learned_agree = of_runs LearnedAgree claims.learned_agree;
       learned_chosen = of_runs LearnedChosen claims.learned_chosen;
       consoles_hold_output = of_runs ConsolesHoldOutput claims.consoles_hold_output;

@@ -9,15 +9,15 @@ use Rattle.group_protocol.specs.Known.{new_key}
 use Rattle.group_progress.specs.GoingOn.{AllHaveCaughtUp, HasRead, MayReach}
 use Rattle.group_progress.proofs.Going.{stay, then}
 use Rattle.group_progress.proofs.Within.{leads_then}
-use Rattle.group_progress.proofs.Starting.{happens_sound}
+use Rattle.group_progress.proofs.Starting.{reached}
 use Rattle.group_progress.proofs.Typing.{typed}
 use Rattle.group_progress.proofs.laws.a_typed_key_is_read.Goals as goal
 
 pub returns : goal.returns
 returns c = λ p group list w members i byte m q size session leads most left own up low free serial.
-    let sound = happens_sound c.deeds_keep_it_sound.ensures.goes_on (new_world p group) list w
-    (c.deeds_keep_it_sound.ensures.begins p group size session) leads in
-    let t = typed c.waiting_keys_are_a_row.ensures.typed members w sound left i m q byte own up low free serial in
+    let laws = c.what_lies_below.ensures.fair in
+    let good = reached laws.more.laws.events p group size session list w leads in
+    let t = typed laws.wait.typed members w good.holds.sound left i m q byte own up low free serial in
     let v = t.world in
     let there = leads_then (new_world p group) list (kept_event (Press i byte) ∷ []) w v leads (v, _, t.goes, refl) in
     let majority = subst (λ (g : Group). IsMajority g.size members) (sym t.group) most in

@@ -1,101 +1,12 @@
--- The laws of the crates below, as the lemmas take them.
-use Rattle.group_progress.proofs.Acceptors.{TestLaws}
-use Rattle.group_progress.proofs.Cycle.{MoreLaws}
-use Rattle.group_progress.proofs.Going.{EventLaws, Good}
-use Rattle.group_progress.proofs.KeysKept.{KeyLaws}
-use Rattle.group_progress.proofs.Learning.{Laws}
-use Rattle.group_progress.proofs.Played.{PlayedLaws, all_is_shown}
-use Rattle.group_progress.proofs.Reading.{ReadLaws}
-use Rattle.group_progress.proofs.Showing.{PlayLaws, ShowLaws}
-use Rattle.group_progress.proofs.Starting.{first_tallies, first_unread, happens_good}
-use Rattle.group_progress.proofs.Waited.{FairLaws, all_is_read}
+use Rattle.group_progress.proofs.Played.{all_is_shown}
+use Rattle.group_progress.proofs.Starting.{reached}
+use Rattle.group_progress.proofs.Waited.{all_is_read}
 use Rattle.group_progress.proofs.laws.fair.fair_runs_go_on.Goals as goal
 
 pub returns : goal.returns
-returns c =
-    let events : EventLaws = record {
-      holds = c.deeds_keep_what_holds.ensures.goes_on;
-      unread = record {
-        first = c.waiting_keys_are_a_row.ensures.first;
-        typed = c.waiting_keys_are_a_row.ensures.typed;
-        new = c.next_keys_are_new.ensures.not_read;
-      };
-      read = c.spelling_is_read.ensures.read;
-      fits_start = c.what_goes_out_fits.ensures.start;
-      fits_campaign = c.what_goes_out_fits.ensures.campaign;
-      fits_tick = c.what_goes_out_fits.ensures.tick;
-      fits_message = c.what_goes_out_fits.ensures.message;
-    } in
-    let tests : TestLaws = record {
-      below = c.tests_are_exact.ensures.below;
-      not_below = c.tests_are_exact.ensures.not_below;
-      same = c.tests_are_exact.ensures.same;
-      same_values = c.tests_are_exact.ensures.same_values;
-      majority = c.tests_are_exact.ensures.majority;
-    } in
-    let keys : KeyLaws = record {
-      gone = c.waiting_keys_are_a_row.ensures.gone;
-      learned_message = c.calls_keep_what_is_learned.ensures.message;
-      more_fronts = λ l m more. c.input_grows.ensures.values l.learned m.learned more;
-      more_keys = c.input_grows.ensures.keys;
-    } in
-    let laws : Laws = record {
-      events = events;
-      tests = tests;
-      keys = keys;
-      front = λ l. c.one_front.ensures.there l.learned;
-      front_rises = λ old new more. c.one_front.ensures.rises old.learned new.learned more;
-      learned_accepted = c.learned_stays.ensures.accepted;
-    } in
-    let reads : ReadLaws = record {
-      same = c.keys_are_read_once.ensures.same;
-      many = c.values_are_learned.ensures.many;
-      at_place = c.values_are_learned.ensures.at_place;
-      agree = c.claims_follow.ensures.learned_agree;
-      front = c.one_front.ensures.there;
-    } in
-    let more : MoreLaws = record {
-      laws = laws;
-      reads = reads;
-      has = λ keys k. (c.key_tests_are_exact.ensures.has keys k).0;
-      stands = λ n k. (c.key_tests_are_exact.ensures.learned n.learner.learned k).0;
-      batch = c.waiting_keys_are_a_row.ensures.batch;
-      no_batch = c.waiting_keys_are_a_row.ensures.none;
-    } in
-    let fair_laws : FairLaws = record {
-      more = more;
-      few = c.one_front.ensures.few;
-      wait = record { keys = keys; typed = c.waiting_keys_are_a_row.ensures.typed };
-    } in
-    let play : PlayLaws = record {
-      compares = c.claims_follow.ensures.consoles_follow;
-      itself = c.prefixes_are_ordered.ensures.itself;
-      shorter = c.prefixes_are_ordered.ensures.shorter;
-    } in
-    let shows : ShowLaws = record {
-      events = events;
-      play = play;
-      grows = c.output_only_grows.ensures.steps;
-      through =
-          c.prefixes_are_ordered.ensures.through;
-    } in
-    let played : PlayedLaws = record {
-      show = shows;
-      learn = record {
-        message = c.calls_keep_what_is_learned.ensures.message;
-        campaign = c.calls_keep_what_is_learned.ensures.campaign;
-        tick = c.calls_keep_what_is_learned.ensures.tick;
-      };
-      input = c.output_only_grows.ensures.input;
-      below = c.prefixes_are_ordered.ensures.below;
-      learned = c.input_grows.ensures.learned;
-    } in
-    λ p group size session list w members leader b run leads most led fair.
-    let begins : Good _ = record {
-      holds = c.deeds_keep_what_holds.ensures.begins p group size session;
-      unread = first_unread p group;
-      tallies = first_tallies p group;
-    } in (
-      all_is_read fair_laws run (happens_good events _ list w begins leads) most led fair,
-      λ i n node own plays. all_is_shown played run (happens_good events _ list w begins leads) led i n own plays,
+returns c = λ p group size session list w members leader b run leads most led fair.
+    let below = c.what_lies_below.ensures in
+    let good = reached below.fair.more.laws.events p group size session list w leads in (
+      all_is_read below.fair run good most led fair,
+      λ i n node own plays. all_is_shown below.played run good led i n own plays,
     )

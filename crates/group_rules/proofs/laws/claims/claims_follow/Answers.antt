@@ -1,6 +1,6 @@
 -- The claims, with the laws of the crates below.
 use Rattle.group_rules.proofs.Output.{console_compares, consoles_agree, consoles_hold_output, consoles_show_released, has_no_gap, learned_agree, learned_chosen, learned_is_chosen, ChoiceLaws, PlayLaws}
-use Rattle.std.proofs.Common.{List}
+use Rattle.std.proofs.Common.{List, arith}
 use Rattle.paxos_msg.specs.Chosen.{IsChosen}
 use Rattle.group_rules.specs.Claims.{ConsolesGrow}
 use Rattle.group_rules.specs.Leads.{LeadsByRules, NodeDeed}
@@ -11,27 +11,13 @@ use Rattle.group_rules.proofs.Fronts.{front_orderly, OrderLaws}
 use Rattle.group_rules.proofs.laws.claims.claims_follow.Goals as goal
 
 choice : goal.After-values_are_learned → ChoiceLaws
-choice c = record { one = c.agreement.ensures.one_value; free = c.agreement.ensures.submitted }
+choice c = grind arith
 
 play : goal.After-values_are_learned → PlayLaws
-play c = record {
-  there = c.input_is_chosen.ensures.there;
-  begins = c.input_is_chosen.ensures.begins;
-  longer = c.output_only_grows.ensures.longer;
-  compared = c.output_only_grows.ensures.compared;
-  itself = c.prefixes_are_ordered.ensures.itself;
-  shorter = c.prefixes_are_ordered.ensures.shorter;
-  after = c.run_is_after.ensures;
-  fronts = record { many = c.values_are_learned.ensures.many; at_place = c.values_are_learned.ensures.at_place };
-}
+play c = grind arith
 
 order : goal.After-values_are_learned → OrderLaws
-order c = record {
-  more = c.keys_are_read_once.ensures.more;
-  same = c.keys_are_read_once.ensures.same;
-  has = c.key_tests_are_exact.ensures.has;
-  choice = choice c;
-}
+order c = grind arith
 
 pub returns-clause-learned_agree : goal.returns-clause-learned_agree
 returns-clause-learned_agree c w h = learned_agree (choice c) w h.sound

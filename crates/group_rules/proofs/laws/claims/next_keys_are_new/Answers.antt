@@ -22,12 +22,7 @@ returns-clause-not_typed c = never_typed
 
 pub returns-clause-not_read : goal.returns-clause-not_read
 returns-clause-not_read c w i node key h up next among =
-    let laws : OrderLaws = record {
-      more = c.keys_are_read_once.ensures.more;
-      same = c.keys_are_read_once.ensures.same;
-      has = c.key_tests_are_exact.ensures.has;
-      choice = record { one = c.agreement.ensures.one_value; free = c.agreement.ensures.submitted };
-    } in
+    let laws : OrderLaws = grind arith in
     let front = front_chosen (record { many = c.values_are_learned.ensures.many; at_place = c.values_are_learned.ensures.at_place })
     (running h.sound up).learned in
     never_typed w i node key h up next (chosen_typed laws h.sound h.ordered (front_values node.learned) front key among)

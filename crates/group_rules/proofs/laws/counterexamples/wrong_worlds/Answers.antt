@@ -8,7 +8,7 @@ use Rattle.pcode_machine.specs.Runs.{after_steps}
 use Rattle.group_node.specs.Inputs.{AreChosen}
 use Rattle.group_rules.specs.WrongSteps.{ballot_by}
 use Rattle.group_protocol.proofs.Elements.{none_in}
-use Rattle.group_rules.specs.Counterexamples.{chosen, key, not_chosen, silent}
+use Rattle.group_rules.specs.Counterexamples.{chosen, key_batch, not_chosen, silent}
 use Rattle.group_rules.proofs.SmallPrograms.{stays, written_by}
 use Rattle.group_rules.proofs.WrittenVotes.{are_chosen, chosen_by, has_learned, not_chosen as none_chosen, not_row}
 use Rattle.group_rules.proofs.laws.counterexamples.wrong_worlds.Goals as goal
@@ -26,10 +26,10 @@ unfolding after_steps
 returns c =
     let first : Key = record { node = 2; start = 1; serial = 1; byte = 65 } in
     record {
-      two_values = λ h. grind (arith, h 4 5 0 (key 1 65) Noop (has_learned _ refl refl) (has_learned _ refl refl));
+      two_values = λ h. grind (arith, h 4 5 0 (key_batch 1 65) Noop (has_learned _ refl refl) (has_learned _ refl refl));
       not_chosen = λ h. none_chosen not_chosen.sent (λ round. grind (arith, nat_tests)) (h 4 0 Noop (has_learned _ refl refl)).0;
-      is_chosen = (ballot_by 1 1, chosen_by (chosen 0 (key 1 65)) (3 ∷ 4 ∷ 5 ∷ []) 0 (lit< tt) refl);
-      not_typed = λ h. none_in _ ((h 4 0 (key 1 65) (has_learned _ refl refl)).1 first (0, lit< tt, refl));
+      is_chosen = (ballot_by 1 1, chosen_by (chosen 0 (key_batch 1 65)) (3 ∷ 4 ∷ 5 ∷ []) 0 (lit< tt) refl);
+      not_typed = λ h. none_in _ ((h 4 0 (key_batch 1 65) (has_learned _ refl refl)).1 first (0, lit< tt, refl));
       -- the program without code never writes
       wrong_console = λ h.
           let (x, input) = c.input_is_chosen.ensures.there 5 [] in
@@ -42,6 +42,6 @@ returns c =
           h _ (two_chosen _ _) 0 1 first (omega arith) (omega arith) (record { node = refl; start = refl; serial = refl });
       second_first = λ h. not_row (λ e. grind arith) (h _ (two_chosen _ _) 2 1);
       second_missing = λ h. not_row (λ e. grind arith) (h _ (two_chosen _ _) 2 1);
-      learned_another = λ h. grind (arith, h 4 5 0 (key 1 65) Noop (has_learned _ refl refl) (has_learned _ refl refl));
+      learned_another = λ h. grind (arith, h 4 5 0 (key_batch 1 65) Noop (has_learned _ refl refl) (has_learned _ refl refl));
       console_lost = λ h. grind (arith, (h 5).whole);
     }

@@ -32,16 +32,7 @@ pub fronts : Laws → FrontLaws
 fronts c = record { many = c.values_are_learned.ensures.many; at_place = c.values_are_learned.ensures.at_place }
 
 play : Laws → PlayLaws
-play c = record {
-  there = c.input_is_chosen.ensures.there;
-  begins = c.input_is_chosen.ensures.begins;
-  longer = c.output_only_grows.ensures.longer;
-  compared = c.output_only_grows.ensures.compared;
-  itself = c.prefixes_are_ordered.ensures.itself;
-  shorter = c.prefixes_are_ordered.ensures.shorter;
-  after = c.run_is_after.ensures;
-  fronts = fronts c;
-}
+play c = grind arith
 
 -- ---- a change of one seat
 

@@ -1,4 +1,4 @@
--- A front of a log of runs is a log of runs: of the same ones, of which the last one of each node is
+-- A prefix of a log of runs is a log of runs: of the same ones, of which the last one of each node is
 -- cut off at a deed.
 use Rattle.std.proofs.lemmas.List.{append-nil, length-append, nil_from_length}
 use Rattle.std.proofs.lemmas.List.Elements.{filter-append}
@@ -20,33 +20,33 @@ use Rattle.group_process.specs.Runs.{AreFirstRuns, AreInTurn, NodeStart, FailsTo
 
 -- ---- lists
 
--- a front of two lists ends after the first of them, or in it
-front_of_two : {X : Type 0} (xs ys es fs : List X) → es ++ fs ≡ xs ++ ys
+-- a prefix of two lists ends after the first of them, or in it
+prefix_of_two : {X : Type 0} (xs ys es fs : List X) → es ++ fs ≡ xs ++ ys
     → ((rest : List X) × (es ≡ xs ++ rest) × (rest ++ fs ≡ ys)) ⊎ ((y : X) × (rest : List X) × (xs ≡ es ++ y ∷ rest))
-front_of_two [] ys es fs e = inl (es, refl, e)
-front_of_two (x ∷ xs) ys [] fs e = inr (x, xs, refl)
-front_of_two (x ∷ xs) ys (z ∷ es) fs e = elim (front_of_two xs ys es fs cc) [
+prefix_of_two [] ys es fs e = inl (es, refl, e)
+prefix_of_two (x ∷ xs) ys [] fs e = inr (x, xs, refl)
+prefix_of_two (x ∷ xs) ys (z ∷ es) fs e = elim (prefix_of_two xs ys es fs cc) [
   | inl (rest, whole, others) ↦ inl (rest, cc, others)
   | inr (y, rest, whole) ↦ inr (y, rest, cc)
 ]
 
--- a front of a list of images is one of a front
-front_of_images : {X Y : Type 0} (f : X → Y) (xs : List X) (es fs : List Y) → map f xs ≡ es ++ fs
-    → (front : List X) × (rest : List X) × (xs ≡ front ++ rest) × (map f front ≡ es)
-front_of_images f xs [] fs e = ([], xs, refl, refl)
-front_of_images f [] (y ∷ es) fs e = absurd cc
-front_of_images f (x ∷ xs) (y ∷ es) fs e =
-    let (front, rest, whole, images) = front_of_images f xs es fs cc in (x ∷ front, rest, cc, cc)
+-- a prefix of a list of images is one of a prefix
+prefix_of_images : {X Y : Type 0} (f : X → Y) (xs : List X) (es fs : List Y) → map f xs ≡ es ++ fs
+    → (prefix : List X) × (rest : List X) × (xs ≡ prefix ++ rest) × (map f prefix ≡ es)
+prefix_of_images f xs [] fs e = ([], xs, refl, refl)
+prefix_of_images f [] (y ∷ es) fs e = absurd cc
+prefix_of_images f (x ∷ xs) (y ∷ es) fs e =
+    let (prefix, rest, whole, images) = prefix_of_images f xs es fs cc in (x ∷ prefix, rest, cc, cc)
 
--- what holds of each holds of each of a front
-pub all_of_front : {X : Type 0} (P : X → Type 0) (xs ys : List X) → AllByRecursion P (xs ++ ys) → AllByRecursion P xs
-all_of_front P [] ys h = tt
-all_of_front P (x ∷ xs) ys h = (h.0, all_of_front P xs ys h.1)
+-- what holds of each holds of each of a prefix
+pub all_of_prefix : {X : Type 0} (P : X → Type 0) (xs ys : List X) → AllByRecursion P (xs ++ ys) → AllByRecursion P xs
+all_of_prefix P [] ys h = tt
+all_of_prefix P (x ∷ xs) ys h = (h.0, all_of_prefix P xs ys h.1)
 
-pub carried_front : (group : Group) (sent : List Datagram) (log more : List Entry) → IsCarried group sent (log ++ more)
+pub carried_prefix : (group : Group) (sent : List Datagram) (log more : List Entry) → IsCarried group sent (log ++ more)
     → IsCarried group sent log
-carried_front group sent [] more h = tt
-carried_front group sent (e ∷ log) more h = (h.0, carried_front group (sent ++ e.sent) log more h.1)
+carried_prefix group sent [] more h = tt
+carried_prefix group sent (e ∷ log) more h = (h.0, carried_prefix group (sent ++ e.sent) log more h.1)
 
 -- ---- runs
 
@@ -60,48 +60,48 @@ pub record MayBeCut (p : Parts) (me : Me) {K : Type 0} (so : K → NodeStart →
   pub still : (known : K) (a : NodeStart) (rest cut : List NodeStart) → so known a rest → AreFirstRuns cut rest → so known a cut
 
 module _ (p : Parts) (me : Me) where
-  -- the deeds of a front
-  does_front : (w v : Running) (front rest : List Doing) → DoesAll me w (front ++ rest) v → (mid : Running) × DoesAll me w front mid
-  does_front w v [] rest h = (w, refl)
-  does_front w v (d ∷ front) rest (next, does, more) =
-      let (mid, others) = does_front next v front rest more in
+  -- the deeds of a prefix
+  does_prefix : (w v : Running) (prefix rest : List Doing) → DoesAll me w (prefix ++ rest) v → (mid : Running) × DoesAll me w prefix mid
+  does_prefix w v [] rest h = (w, refl)
+  does_prefix w v (d ∷ prefix) rest (next, does, more) =
+      let (mid, others) = does_prefix next v prefix rest more in
       (mid, (next, does, others))
 
   -- a run ends by one entry at most
   ends_few : (run : NodeRun) → length (ends_by me run run.stand) ≤ 1
   ends_few run = grind arith
 
-  -- the deeds of a run in a front of its entries that ends in it
-  deeds_in_front : (run : NodeRun) (es : List Entry) (y : Entry) (fs : List Entry)
+  -- the deeds of a run in a prefix of its entries that ends in it
+  deeds_in_prefix : (run : NodeRun) (es : List Entry) (y : Entry) (fs : List Entry)
       → es ++ y ∷ fs ≡ map (entry_by me.node Kept) run.process.doings ++ ends_by me run run.stand
-      → (front : List Doing) × (rest : List Doing) × (run.process.doings ≡ front ++ rest) × (map (entry_by me.node Kept) front ≡ es)
-  deeds_in_front run es y fs e =
+      → (prefix : List Doing) × (rest : List Doing) × (run.process.doings ≡ prefix ++ rest) × (map (entry_by me.node Kept) prefix ≡ es)
+  deeds_in_prefix run es y fs e =
       let all = map (entry_by me.node Kept) run.process.doings in
-      elim (front_of_two all (ends_by me run run.stand) es (y ∷ fs) e) [
+      elim (prefix_of_two all (ends_by me run run.stand) es (y ∷ fs) e) [
         | inl (rest, whole, others) ↦
             let none = nil_from_length rest (omega (arith, ends_few run, ap length others, length-append rest (y ∷ fs))) in
             (run.process.doings, [], sym (append-nil run.process.doings), sym (whole ∙ rw none (append-nil all)))
-        | inr (z, rest, whole) ↦ front_of_images (entry_by me.node Kept) run.process.doings es (z ∷ rest) whole
+        | inr (z, rest, whole) ↦ prefix_of_images (entry_by me.node Kept) run.process.doings es (z ∷ rest) whole
       ]
 
   module _ {K : Type 0} (so : K → NodeStart → List NodeStart → Type 0) (next : K → NodeStart → K) (may : MayBeCut p me so) where
     -- starts with these entries, which are the first of others
-    abbrev pub FrontOf : List NodeStart → K → List Entry → Type 0
-    FrontOf runs known es =
+    abbrev pub PrefixOf : List NodeStart → K → List Entry → Type 0
+    PrefixOf runs known es =
         (cut : List NodeStart) × AreInTurn so next known cut × (es ≡ flat_map (entries_of_start me) cut) × AreFirstRuns cut runs
 
-    -- a front of the entries of a start that ends in it
+    -- a prefix of the entries of a start that ends in it
     cut_start_from : (known : K) (a : NodeStart) (rest : List NodeStart) (es : List Entry) (y : Entry) (fs : List Entry)
-        → so known a rest → entries_of_start me a ≡ es ++ y ∷ fs → FrontOf (a ∷ rest) known es
+        → so known a rest → entries_of_start me a ≡ es ++ y ∷ fs → PrefixOf (a ∷ rest) known es
     cut_start_from known (Starts run) others [] y fs any e = ([], tt, refl, tt)
     cut_start_from known (Starts run) others (x ∷ es) y fs any e =
         let h = may.runs known run others any in
         let start = quiet_entry me.node (Start run.process.loaded) in
         let head : x ≡ start = cc in
         let tail : es ++ y ∷ fs ≡ map (entry_by me.node Kept) run.process.doings ++ ends_by me run run.stand = cc in
-        let (front, rest, whole, entries) = deeds_in_front run es y fs tail in
-        let (mid, does) = does_front (started p me run.process.loaded) run.last front rest (rw whole at h.does) in
-        let process : Process = record { loaded = run.process.loaded; doings = front; failed = None } in (
+        let (prefix, rest, whole, entries) = deeds_in_prefix run es y fs tail in
+        let (mid, does) = does_prefix (started p me run.process.loaded) run.last prefix rest (rw whole at h.does) in
+        let process : Process = record { loaded = run.process.loaded; doings = prefix; failed = None } in (
           Starts (record { process = process; last = mid; stand = GoesOn }) ∷ [],
           (may.cut known run others process mid any refl (record { spare = h.spare; does = does; fails = tt }), tt),
           rw (append-nil, append-nil) (ap (λ z. z ∷ es) head ∙ ap (λ l. start ∷ l) (sym entries)),
@@ -110,13 +110,13 @@ module _ (p : Parts) (me : Me) where
     cut_start_from known (FailsToStart loaded is_changed) rest es y fs any e =
         ([], tt, nil_from_length es (omega (arith, ap length e, length-append es (y ∷ fs))), tt)
 
-    -- a front of the entries of starts
+    -- a prefix of the entries of starts
     pub cut_starts : (runs : List NodeStart) (known : K) (es fs : List Entry) → AreInTurn so next known runs
-        → es ++ fs ≡ flat_map (entries_of_start me) runs → FrontOf runs known es
+        → es ++ fs ≡ flat_map (entries_of_start me) runs → PrefixOf runs known es
     cut_starts [] known [] fs h e = ([], tt, refl, tt)
     cut_starts [] known (x ∷ es) fs h e = absurd cc
     cut_starts (a ∷ runs) known es fs (first, others) e =
-        elim (front_of_two (entries_of_start me a) (flat_map (entries_of_start me) runs) es fs e) [
+        elim (prefix_of_two (entries_of_start me a) (flat_map (entries_of_start me) runs) es fs e) [
           | inl (rest, whole, more) ↦
               let (cut, are, entries, some) = cut_starts runs (next known a) rest fs others more in (
                 a ∷ cut,
@@ -143,15 +143,15 @@ module _ (p : Parts) (me : Me) where
 
 -- ---- a log
 
-pub log_front : (p : Parts) (group : Group) (runs : ℕ → List NodeStart) (log more : List Entry) → IsGroupLog p group runs (log ++ more)
+pub log_prefix : (p : Parts) (group : Group) (runs : ℕ → List NodeStart) (log more : List Entry) → IsGroupLog p group runs (log ++ more)
     → HasRuns p group runs log
-log_front p group runs log more h =
+log_prefix p group runs log more h =
     let me : ℕ → Me = λ i. record { node = i; group = group } in
-    let one : (i : ℕ) → FrontOf p (me i) (IsStartFrom p (me i)) (λ _ a. record_left a) (runs_may_be_cut p (me i)) (runs i) empty_record
+    let one : (i : ℕ) → PrefixOf p (me i) (IsStartFrom p (me i)) (λ _ a. record_left a) (runs_may_be_cut p (me i)) (runs i) empty_record
     (entries_of i log) = λ i. cut_starts p (me i) (IsStartFrom p (me i)) (λ _ a. record_left a) (runs_may_be_cut p (me i))
     (runs i) empty_record
     _ (entries_of i more) (h.started i) (sym (filter-append (λ (e : Entry). e.node == i) log more) ∙ h.entries i) in (
       λ i. (one i).0,
-      grind (arith, all_of_front, carried_front),
+      grind (arith, all_of_prefix, carried_prefix),
       λ i. (one i).3,
     )
