@@ -35,7 +35,10 @@ def open_here(path, flags):
 
 
 def remove_whole(path):
-    """Removes a file, if it is there, so that no crash brings it back."""
-    if os.path.lexists(path):
+    """Removes a file, if it is there, so that no crash brings it back. Where another process
+    removes it at the same moment, that one syncs the folder."""
+    try:
         os.unlink(path)
-        sync_folder(path)
+    except FileNotFoundError:
+        return
+    sync_folder(path)
