@@ -101,10 +101,12 @@ class Supervised(Running):
         return self.started
 
     def check(self):
-        """Raises Broken if the supervisor has ended by itself."""
+        """Raises Broken if the supervisor has ended by itself. The line that says why comes first:
+        the gate shows a few lines of what has failed."""
         if self.process and self.process.poll() is not None:
-            status = self.process.returncode
-            raise Broken(f"supervisor {self.number} has ended with {status}:\n{self.said()}")
+            status, said = self.process.returncode, self.said()
+            why = said.rstrip().rpartition("\n")[2]
+            raise Broken(f"supervisor {self.number} has ended with {status}: {why}\n{said}")
 
     def await_said(self, text, at_least=1):
         """Waits until it has said this so often."""

@@ -53,7 +53,7 @@ traffic : Some recorded_traffic ≡ grown (Some []) (transfers_of me (doings_of 
 traffic = rw front_is refl
 
 typed : GivesWhatCame no_keyboard [] no_keyboard
-typed = record { came = no_keys; whole = refl; none_came = λ _. refl; stays = refl; more = refl }
+typed = record { came = no_keys; whole = refl; none_came = λ _. refl; stays = refl; more = refl; times = 0; looked = refl }
 
 followed : IsPrompted [] 1 0 0 (IsErrOf {T = Unit {0}} (Ok tt) (group.Node SerialSpent)) (Run 10 ∷ [])
 followed = record { lost = []; typed = refl; all = λ _. refl; campaigns = omega arith; made = refl }

@@ -1,6 +1,6 @@
 -- A run of which all is known: what passed over its wire, byte by byte, what is on its disk before
 -- and after it, what its keyboard gave, and what it wrote.
-use Rattle.std.specs.Prelude.{ℕ, true, List, [], ◌∷◌, Option, Some}
+use Rattle.std.specs.Prelude.{ℕ, true, List, [], ◌∷◌, Option, None, Some}
 use Rattle.paxos_msg.specs.Batches.{Record}
 use Rattle.paxos_disk.specs.Disks.{Folder}
 use Rattle.paxos_disk.specs.Reads.{LogState}
@@ -23,7 +23,7 @@ recorded_traffic =
 
 -- A keyboard that is closed, and never had anything.
 abbrev pub no_keyboard : KeyboardState
-no_keyboard = record { left = no_keys; is_closed = true; taken_in = Some no_keys }
+no_keyboard = record { left = no_keys; is_closed = true; taken_in = Some no_keys; looks = None }
 
 -- A plan: campaign, take one turn, and write all bytes.
 abbrev pub recorded_plan : RunPlan

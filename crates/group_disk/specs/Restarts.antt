@@ -46,9 +46,10 @@ IsSameStand GoesOn s = s ≡ GoesOn
 IsSameStand (IsOver is_changed) GoesOn = ⊥
 IsSameStand (IsOver is_changed) (IsOver other) = Unit {0}
 
--- The runs are these starts, in order, with the same deeds, and with another choice of what was
--- left: which record a failed save has left, and which of the starts whose save failed have been.
--- Forbids: A run left out; another deed in it.
+-- The runs are these starts, in order, with the same deeds. What was left is chosen anew: which
+-- record a failed save has left, and which of the starts whose save failed have been.
+-- Allows: the same choice.
+-- Forbids: a run left out; another deed in it.
 abbrev pub AreChosenRuns : List NodeStart → List NodeStart → Type 0
 AreChosenRuns [] starts = starts ≡ []
 AreChosenRuns (Starts run ∷ rest) starts =

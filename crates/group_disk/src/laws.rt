@@ -49,7 +49,7 @@ pub fn restarts_are_runs()
         → AreRestarts p me (kept ∷ []) restarts → HaveRuns p me kept restarts }
 {}
 
-/// Of the runs that are chosen all that is seen is the same.
+/// Runs that are chosen from starts are seen the same as these starts.
 pub fn chosen_runs_are_seen_same()
     ensures { (me : Me) (restarts starts : List NodeStart) → AreChosenRuns restarts starts
         → AreSeenSame me restarts starts }

@@ -30,7 +30,7 @@ use Rattle.group_world.specs.declared.event.Act.TheVariants as act
 use Rattle.group_world.specs.Event.{DoesAt}
 use Rattle.group_world.specs.Group.{IsUp, member_at, World, world_state}
 use Rattle.group_world.specs.Member.{Member}
-use Rattle.group_progress.specs.Fair.{AllHoldPromise, Endless, IsFair, IsLeading, IsLed, Later}
+use Rattle.group_progress.specs.Fair.{AllHoldPromise, Endless, IsFair, LeadsAllPlaces, IsLed, Later}
 use Rattle.group_world.proofs.WorldAsGroup.{changed_here, running}
 use Rattle.group_progress.specs.Below.{EventLaws, TestLaws}
 use Rattle.group_progress.proofs.Acceptors.{promises}
@@ -381,7 +381,7 @@ module _ (laws : EventLaws) (tests : TestLaws) (few : (learned : FinMap nat_cmp 
 
   -- ---- the laws
 
-  leading_at : (among : ℕ → Bool) (n : ℕ) → IsCoveredBy among n → IsLeading among b leader (run.world (suc n))
+  leading_at : (among : ℕ → Bool) (n : ℕ) → IsCoveredBy among n → LeadsAllPlaces among b leader (run.world (suc n))
   leading_at among n h =
       let at = covers_first 0 n (omega arith) in
       let k : Covers b 0 0 at.is_up.running.known = at.is_up.holds in record {
@@ -399,14 +399,14 @@ module _ (laws : EventLaws) (tests : TestLaws) (few : (learned : FinMap nat_cmp 
       }
 
   pub leads_on : Later 0 (λ t. (among : ℕ → Bool) × IsMajority w.group.size among ×
-      ((u : ℕ) → t ≤ u → IsLeading among b leader (run.world u)))
+      ((u : ℕ) → t ≤ u → LeadsAllPlaces among b leader (run.world u)))
   leads_on = by covered where
-    at : (among : ℕ → Bool) (t : ℕ) → IsCoveredBy among t → (u : ℕ) → suc t ≤ u → IsLeading among b leader (run.world u)
+    at : (among : ℕ → Bool) (t : ℕ) → IsCoveredBy among t → (u : ℕ) → suc t ≤ u → LeadsAllPlaces among b leader (run.world u)
     at among t h zero less = absurd (omega (arith, less))
     at among t h (suc u) less = leading_at among u (from_then (IsCoveredBy among) (covered_stays among) t u (omega (arith, less)) h)
 
     by : Later 0 IsAllCovered → Later 0 (λ t. (among : ℕ → Bool) × IsMajority w.group.size among ×
-        ((u : ℕ) → t ≤ u → IsLeading among b leader (run.world u)))
+        ((u : ℕ) → t ≤ u → LeadsAllPlaces among b leader (run.world u)))
     by (t, less, (among, h)) = (suc t, omega arith, (among, h.majority, at among t h))
 
   pub promised_on : Later 0 (λ t. (u : ℕ) → t ≤ u → AllHoldPromise members b w.group.size (run.world u))

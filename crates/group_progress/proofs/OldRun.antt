@@ -253,6 +253,16 @@ module _ (laws : EventLaws) (tests : TestLaws) (fronts : (learned : FinMap nat_c
         subst (λ (q : Running). next_ballot q.known ≡ record { round = 1; node = 1 }) same one_ballot;
     above = λ i m mine there. low i m mine there;
     kept = λ n mine. kept_so n;
+    old = record {
+      number = 0;
+      message = old_message;
+      ballot = record { round = 1; node = 2 };
+      first = front two.is_up.running.known;
+      there = old_there;
+      body = refl;
+      above = inr (refl, omega arith);
+      heard = refl;
+    };
     peace = λ n mine. peace_so n;
     room = λ n s c v said. absurd (said_at n _ said.1);
   } where

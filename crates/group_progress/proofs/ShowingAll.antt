@@ -6,7 +6,7 @@ use Rattle.paxos_msg.specs.Keys.{Key}
 use Rattle.group_node.specs.States.{input}
 use Rattle.group_protocol.specs.Known.{Known}
 use Rattle.group_world.specs.Group.{IsUp, World, member_at}
-use Rattle.group_progress.specs.GoingOn.{AllHaveCaughtUp, AllHaveReadAndShown, HasReadAndShown, Reaches}
+use Rattle.group_progress.specs.GoingOn.{AllHaveFinishedReading, AllHaveReadAndShown, HasReadAndShown, Reaches}
 use Rattle.group_progress.specs.Below.{ShowLaws}
 use Rattle.group_progress.proofs.Going.{Good, stay, then}
 use Rattle.group_progress.proofs.Showing.{MOST_STEPS, may_show}
@@ -14,7 +14,7 @@ use Rattle.group_progress.proofs.Steps.{each_in_turn}
 
 module _ (laws : ShowLaws) (members : ℕ → Bool) (n steps : ℕ) (low : steps ≤ MOST_STEPS) (size : ℕ) (keys : List Key) (w : World)
     (fine : Good w)
-    (read : AllHaveCaughtUp members size keys w) where
+    (read : AllHaveFinishedReading members size keys w) where
   -- the nodes from this one on are as they were
   record Rest (k : ℕ) (v : World) : Type 0 where
     pub good : Good v
@@ -39,7 +39,7 @@ module _ (laws : ShowLaws) (members : ℕ → Bool) (n steps : ℕ) (low : steps
           ahead = λ j above. s.others j (λ is. absurd (omega (arith, above, is))) ∙ r.ahead j (omega (arith, above));
         },
         record {
-          caught_up = record {
+          finished = record {
             has = record {
               node = s.node;
               running = record { known = k1; progress = s.progress };
@@ -51,16 +51,16 @@ module _ (laws : ShowLaws) (members : ℕ → Bool) (n steps : ℕ) (low : steps
           shown = subst (λ (p : Parts). IsPrefix (out p (input k1) steps) s.node.console) (sym s.program) s.shown;
         },
         λ j other d.
-            let was = d.caught_up.has in
+            let was = d.finished.has in
             record {
-              caught_up = record {
+              finished = record {
                 has = record {
                   node = was.node;
                   running = was.running;
                   up = record { there = s.others j other ∙ was.up.there; up = was.up.up };
                   read = was.read;
                 };
-                none = d.caught_up.none;
+                none = d.finished.none;
               };
               shown = subst (λ (p : Parts). IsPrefix (out p (input was.running.known) steps) was.node.console) (sym s.program) d.shown;
             },

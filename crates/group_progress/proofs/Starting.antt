@@ -20,7 +20,7 @@ use Rattle.group_world.specs.Sound.{IsSound}
 use Rattle.group_node.specs.Deeds.{Deed}
 use Rattle.group_world.specs.Group.{IsUp, World, me_of, member_at, new_world, world_state}
 use Rattle.group_world.specs.Member.{Member}
-use Rattle.group_progress.specs.GoingOn.{AllHaveCaughtUp, HasLeft, HasRoundAbove, HaveLeft, HaveOpen, MayReachWithin, ReachesWithin, learned_to, most_messages, most_ticks, waiting_at, keys_waiting, waiting_of}
+use Rattle.group_progress.specs.GoingOn.{AllHaveFinishedReading, HasLeft, HasRoundAbove, HaveLeft, HaveOpen, MayReachWithin, ReachesWithin, learned_to, most_messages, most_ticks, waiting_at, keys_waiting, waiting_of}
 use Rattle.group_protocol.specs.WaitingKeys.{waiting_keys}
 use Rattle.group_progress.specs.Below.{EventLaws, LearnLaws, MoreLaws}
 use Rattle.group_progress.proofs.Campaigning.{UpReady, read_all}
@@ -163,7 +163,7 @@ module _ (more : MoreLaws) (learn : LearnLaws) (members : ℕ → Bool) (w : Wor
   -- all waiting keys are read
   pub all_read : MayReachWithin (most_ticks w.group.size gap (length (keys_waiting members w)))
       (most_messages w.group.size gap (length (keys_waiting members w))) members w
-      (AllHaveCaughtUp members w.group.size (keys_waiting members w))
+      (AllHaveFinishedReading members w.group.size (keys_waiting members w))
   all_read =
       let start : Rest 0 w = record { fine = good; group = refl; late = omega arith; ahead = λ j above. refl } in
       within ((then) (each_within w.group.size 1 0 Rest (λ i v. UpReady keys left.top gap v i) skip_one start_one w start)

@@ -48,9 +48,9 @@ Later n P = (t : ℕ) × (n ≤ t) × P t
 
 -- ---- one node leads
 
--- Bodies that may end the lead under the ballot: a Prepare above it, and a Refused that answers it.
--- Forbids: an Accept, of any ballot. As long as no node of the majority hears such a Prepare, no
--- Accept above the ballot is sent.
+-- Bodies that may end the lead under the ballot: a Prepare above the ballot, and a Refused that
+-- answers the ballot. No Accept is one: none above the ballot is sent before a node of the majority
+-- has heard such a Prepare.
 abbrev pub Outranks : Ballot → Body → Type 0
 Outranks b (Prepare c from) = IsBelow b c
 Outranks b (Refused c promised) = c ≡ b
@@ -73,10 +73,10 @@ pub record IsCalm (members : ℕ → Bool) (b : Ballot) (w : World) (e : Event) 
   pub kept : IsTrue (members (node_of e.act)) → e.save ≡ Kept
   pub calm : IsTrue (members (node_of e.act)) → IsCalmAct b (world_state w).sent e.act
 
--- The first event is a campaign of this node, which happens, and whose save, if any, is kept. It is
--- one of these nodes, which are all up and have promised nothing above its ballot. From then on all
--- is calm. That these nodes are a majority is a premise of the laws. No Accept of the last place is
--- ever sent, nor was one before.
+-- Event 0 is a campaign of node `leader`, which happens, and its save is kept. The node is one of
+-- these nodes. Before event 0 all of them are up, and none has promised a ballot above `b`, the
+-- campaign's. Each later event is calm. At no moment has an Accept of the last place been sent.
+-- That these nodes are a majority is a premise of the laws.
 pub record IsLed (members : ℕ → Bool) (leader : ℕ) (b : Ballot) {w : World}
     (run : Endless w) : Type 0 where
   pub node : IsNode w.group.size leader
@@ -99,7 +99,7 @@ IsAddressedTo i All = Unit {0}
 IsAddressedTo i (One j) = j ≡ i
 
 -- Message `k` is `m`, from a node of the majority to node `i`, and was sent in this run before
--- moment `n`.
+-- moment `n`, so not before the run (`late`).
 -- Allows: a message that was heard already.
 pub record WasSentTo (members : ℕ → Bool) {w : World} (run : Endless w) (n k i : ℕ)
     (m : Msg) : Type 0 where
@@ -141,7 +141,7 @@ AllHoldPromise members b size w =
 
 -- Node `i` is up and proposes under the ballot, and knows that each of these nodes has promised all
 -- places.
-pub record IsLeading (among : ℕ → Bool) (b : Ballot) (i : ℕ) (w : World) : Type 0 where
+pub record LeadsAllPlaces (among : ℕ → Bool) (b : Ballot) (i : ℕ) (w : World) : Type 0 where
   pub node : Member
   pub running : Running
   pub up : IsUp w i node running
@@ -173,8 +173,8 @@ abbrev pub AllHaveLearned : (ℕ → Bool) → ℕ → ℕ → World → Type 0
 AllHaveLearned members size c w =
     (i : ℕ) → IsNode size i → IsTrue (members i) → HasLearnedBelow c w i
 
--- There is a moment from which on each node of the majority has read each key that waits at one of
--- them at this moment.
+-- Each key that waits at a node of the majority at moment `n` has been read by all of them from
+-- some moment on, which is not before `n`.
 abbrev pub AllIsRead : (ℕ → Bool) → {w : World} → Endless w → ℕ → Type 0
 AllIsRead members {w} run n =
     Later n (λ t. (u : ℕ) → t ≤ u
@@ -185,8 +185,8 @@ pub record KeepsPlaying (i : ℕ) {w : World} (run : Endless w) : Type 0 where
   pub runs : (n : ℕ) → Later n (λ t. (steps : ℕ) × (0 < steps) × ((run.event t).act ≡ Run i steps))
   pub releases : (n : ℕ) → Later n (λ t. (run.event t).act ≡ Release i)
 
--- What the program writes in so many steps on what node `i` has read at this moment is on its
--- console from some moment on.
+-- What the program writes, in any number of steps below 2^64, on what node `i` has read at moment
+-- `n` is on its console from some moment on, which is not before `n`.
 abbrev pub AllIsShown : {w : World} → Endless w → ℕ → ℕ → Type 0
 AllIsShown {w} run i n =
     (m : Member) (q : Running) (steps : ℕ) → IsUp (run.world n) i m q → steps ≤ 18446744073709551615
@@ -211,7 +211,7 @@ pub record HasFairRun (p : Parts) (group : Group) : Type 0 where
 
 -- Each run that is led and fair goes on. Each key that waits at a node of the majority is read by
 -- each of them. If one of them runs and releases again and again, each byte that the program writes
--- on what it has read is shown there.
+-- on what it has read, in fewer than 2^64 steps, is shown there.
 -- Source: Simple 2.4, progress.
 -- Allows: keys that are typed at any moment; other nodes that do anything.
 -- Forbids: a run that is led and fair, in which a key waits for ever.

@@ -70,14 +70,13 @@ ticks_by _ = 1
 abbrev pub messages_heard : List Event → ℕ
 messages_heard events = sum_by (λ e. messages_by e.act) events
 
--- How many ticks are in these events, with the starts, the campaigns and all else that hears
--- nothing.
+-- How many of these events hear no message: ticks, starts, campaigns, runs and releases.
 abbrev pub ticks_in : List Event → ℕ
 ticks_in events = sum_by (λ e. ticks_by e.act) events
 
--- As `Reaches`, by at most so many events that hear nothing, such as ticks, and so many that hear a
--- message.
--- Forbids: one event more than both.
+-- As `Reaches`, by at most so many events that hear no message, such as ticks, and at most so many
+-- that hear one.
+-- Forbids: more events in all than both numbers together.
 pub record ReachesWithin (ticks messages : ℕ) (members : ℕ → Bool) (sent : ℕ) (w : World)
     (P : World → Type 0) : Type 0 where
   pub reaches : Reaches members sent w P
@@ -85,7 +84,8 @@ pub record ReachesWithin (ticks messages : ℕ) (members : ℕ → Bool) (sent :
   pub few_messages : messages_heard reaches.events ≤ messages
   pub few : length reaches.events ≤ ticks + messages
 
--- The same from a world on. Nodes hear only what is sent from there on.
+-- As `MayReach`, by at most so many events that hear no message, and at most so many that hear one.
+-- Nodes hear only what is sent from the world `w` on.
 -- Source: Simple 2.4, progress.
 abbrev pub MayReachWithin : ℕ → ℕ → (ℕ → Bool) → World → (World → Type 0) → Type 0
 MayReachWithin ticks messages members w P =
@@ -98,7 +98,7 @@ abbrev pub waiting_at : Option Running → List Key
 waiting_at None = []
 waiting_at (Some q) = waiting_keys q.known
 
--- The keys that wait at a node, if there is one.
+-- The keys that wait at a node, if there is such a node.
 abbrev pub waiting_of : Option Member → List Key
 waiting_of None = []
 waiting_of (Some m) = waiting_at m.node
@@ -115,8 +115,9 @@ keys_waiting members w =
 abbrev pub HasRoundAbove : Ballot → Type 0
 HasRoundAbove b = b.round < LAST_ROUND
 
--- What has to be left for a node that takes part: a start, if it is down, and a round above those
--- of the ballots that it has promised or heard of. Its votes are at places below this one.
+-- What has to be left for a node that takes part: a start, if it is down; and a round above that of
+-- the ballot that it has promised and, if it is up, of the greatest one that a Refused reported to
+-- it. All its votes are at places below `top`.
 -- Allows: a node that has never started.
 pub record HasLeft (top : ℕ) (m : Member) : Type 0 where
   pub start : m.node ≡ None → m.kept.starts < LAST_START
@@ -127,7 +128,7 @@ pub record HasLeft (top : ℕ) (m : Member) : Type 0 where
 -- What has to be left for these nodes to read so many keys: what each of them needs, and above all
 -- of their votes a place for each of the keys, the last place (65,535) not counted.
 -- Allows: a node that has never started; votes for any values.
--- Forbids: a vote at place 65,534 if a key waits.
+-- Forbids: a vote at place 65,535; one at 65,534 if `keys` is not 0.
 pub record HaveLeftFor (keys : ℕ) (members : ℕ → Bool) (w : World) : Type 0 where
   pub top : ℕ
   pub room : top + keys < PLACES
@@ -175,10 +176,12 @@ messages_of_batch n = 1 + 2 * n + n * 2
 abbrev pub most_ticks : ℕ → ℕ → ℕ → ℕ
 most_ticks n k w = n + 1 + k + n * k + most_batches n w * ticks_of_batch n
 
--- The most messages by which `n` nodes read `w` keys, where `k` places are open: for each part of
--- the promise of each node the Prepare and the part, which has 8 votes at open places, but for the
--- last; for each open place, an Accept and an Accepted of each node; for each open place, an Ask of
--- each node and a Tell to it; and then each reads one batch after another.
+-- The most messages by which `n` nodes read `w` keys, where `k` places are open. By summands:
+-- 1. each node's promise has a part for each 8 votes at open places, and a last one; for each part
+--    there are the Prepare and the part
+-- 2. for each open place, an Accept and an Accepted of each node
+-- 3. for each open place, an Ask of each node and a Tell to it
+-- 4. then each node reads one batch after another
 -- Source: Simple 2.4, progress.
 abbrev pub most_messages : ℕ → ℕ → ℕ → ℕ
 most_messages n k w =
@@ -201,16 +204,17 @@ AllHaveRead members size keys w = (i : ℕ) → IsNode size i → IsTrue (member
 
 -- Node `i` has read these keys, and no key waits there.
 -- Forbids: a key that waits there and that it has not read.
-pub record HasCaughtUp (keys : List Key) (w : World) (i : ℕ) : Type 0 where
+pub record HasFinishedReading (keys : List Key) (w : World) (i : ℕ) : Type 0 where
   pub has : HasRead keys w i
   pub none : waiting_keys has.running.known ≡ []
 
 -- Each of these nodes of a group of this size has read these keys and has none that wait.
-abbrev pub AllHaveCaughtUp : (ℕ → Bool) → ℕ → List Key → World → Type 0
-AllHaveCaughtUp members size keys w =
-    (i : ℕ) → IsNode size i → IsTrue (members i) → HasCaughtUp keys w i
+abbrev pub AllHaveFinishedReading : (ℕ → Bool) → ℕ → List Key → World → Type 0
+AllHaveFinishedReading members size keys w =
+    (i : ℕ) → IsNode size i → IsTrue (members i) → HasFinishedReading keys w i
 
--- Node `i` is up and does not refuse a typed byte because too many wait.
+-- Node `i` is up, and fewer than 256 keys wait there: it refuses no typed byte as `Busy`.
+-- Allows: a byte that is refused because no serial is left.
 pub record TakesKeys (w : World) (i : ℕ) : Type 0 where
   pub node : Member
   pub running : Running
@@ -238,9 +242,9 @@ AllMayShow members w =
 -- Node `i` is up and has read these keys, no key waits there, and its console begins with what the
 -- program writes in so many steps on what the node has read.
 pub record HasReadAndShown (keys : List Key) (steps : ℕ) (w : World) (i : ℕ) : Type 0 where
-  pub caught_up : HasCaughtUp keys w i
-  pub shown : IsPrefix (out w.program (input caught_up.has.running.known) steps)
-      caught_up.has.node.console
+  pub finished : HasFinishedReading keys w i
+  pub shown : IsPrefix (out w.program (input finished.has.running.known) steps)
+      finished.has.node.console
 
 -- Each of these nodes of a group of this size has read these keys, has none that wait, and shows
 -- what the program writes in so many steps.

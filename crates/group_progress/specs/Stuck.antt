@@ -1,12 +1,12 @@
 -- Runs that lack one premise of fair runs, and in which a key waits for ever.
-use Rattle.std.specs.Prelude.{◌≡◌, ◌≢◌, ℕ, suc, ◌+◌, ◌<◌, Bool, IsTrue, List, [], ◌∷◌, Contains, Some, IfSome}
+use Rattle.std.specs.Prelude.{◌≡◌, ◌≢◌, ℕ, suc, ◌+◌, ◌<◌, Bool, IsTrue, List, [], ◌∷◌, Contains, slice_get, Some, IfSome}
 use Rattle.pcode_file.specs.Parts.{Parts}
 use Rattle.paxos_msg.specs.declared.limits.TheConstants.{PLACES}
-use Rattle.paxos_msg.specs.declared.message.Body.TheVariants.{Accept, Submit}
+use Rattle.paxos_msg.specs.declared.message.Body.TheVariants.{Accept, Prepare, Submit}
 use Rattle.paxos_msg.specs.declared.message.Group.{Group}
 use Rattle.paxos_msg.specs.declared.ballot.Ballot.{Ballot}
 use Rattle.paxos_msg.specs.declared.value.Value.{Value}
-use Rattle.paxos_msg.specs.Ballots.{IsAtMost, IsMajority}
+use Rattle.paxos_msg.specs.Ballots.{IsAtMost, IsBelow, IsMajority}
 use Rattle.paxos_msg.specs.Batches.{Msg}
 use Rattle.paxos_msg.specs.Fits.{IsNode}
 use Rattle.paxos_msg.specs.Keys.{Key}
@@ -48,9 +48,21 @@ IsOpenAct (Campaign i) = ⊥
 IsOpenAct (Crash i) = ⊥
 IsOpenAct _ = Unit {0}
 
--- A run that is led, but for what is heard: from moment 1 on nodes of the majority neither crash
--- nor campaign, and their saves are kept.
--- Allows: an old Prepare above the ballot that is heard, and what follows from it.
+-- At moment 1 the leading node hears a Prepare above the ballot, which was sent before the run.
+pub record HearsOldPrepare (leader : ℕ) (b : Ballot) (w : World) (run : Endless w) : Type 0 where
+  pub number : ℕ
+  pub message : Msg
+  pub ballot : Ballot
+  pub first : ℕ
+  pub there : slice_get (world_state w).sent number ≡ Some message
+  pub body : message.body ≡ Prepare ballot first
+  pub above : IsBelow b ballot
+  pub heard : run.event 1 ≡ kept_event (Deliver number leader)
+
+-- A run that is led as `IsLed` says, but for one thing: the leading node hears an old Prepare.
+-- From moment 1 on nodes of the majority neither crash nor campaign, and their saves are kept.
+-- Allows: what follows from the old Prepare, as that others hear it too, and Refuseds that answer
+-- the ballot.
 pub record IsLedOpenly (members : ℕ → Bool) (leader : ℕ) (b : Ballot) (w : World)
     (run : Endless w) : Type 0 where
   pub node : IsNode w.group.size leader
@@ -63,6 +75,7 @@ pub record IsLedOpenly (members : ℕ → Bool) (leader : ℕ) (b : Ballot) (w :
       → IfSome m.kept.promised (λ p. IsAtMost p b)
   pub kept : (n : ℕ) → IsTrue (members (node_of (run.event (suc n)).act))
       → (run.event (suc n)).save ≡ Kept
+  pub old : HearsOldPrepare leader b w run
   pub peace : (n : ℕ) → IsTrue (members (node_of (run.event (suc n)).act))
       → IsOpenAct (run.event (suc n)).act
   pub room : (n s : ℕ) (c : Ballot) (v : Value)

@@ -1,4 +1,4 @@
-//! The laws that a group can always go on, over the definitions alone.
+//! The laws that a group can go on, as long as starts, rounds and places are left.
 ghost use Rattle.std.specs.Prelude.{ℕ, ◌+◌, ◌<◌, ◌≤◌, ◌≢◌, Bool, IsTrue, List, Option, length};
 ghost use Rattle.pcode_file.specs.Parts.{Parts};
 ghost use Rattle.paxos_acceptor.specs.declared.me.Me.{Me};
@@ -21,7 +21,7 @@ ghost use Rattle.group_world.specs.Event.{Goes, LeadsBy, kept_event};
 ghost use Rattle.group_world.specs.Group.{IsUp, World, new_world};
 ghost use Rattle.group_world.specs.Member.{Member};
 ghost use Rattle.group_world.specs.Processes.{Entry, IsLog, after_log};
-ghost use Rattle.group_progress.specs.GoingOn.{AllHaveCaughtUp, AllHaveReadAndShown, AllTakeKeys, AllMayShow, HaveLeft, HaveLeftFor, HaveOpen, MayReach, MayReachWithin, keys_waiting, most_messages, most_ticks};
+ghost use Rattle.group_progress.specs.GoingOn.{AllHaveFinishedReading, AllHaveReadAndShown, AllTakeKeys, AllMayShow, HaveLeft, HaveLeftFor, HaveOpen, MayReach, MayReachWithin, keys_waiting, most_messages, most_ticks};
 ghost use Rattle.group_progress.specs.Processes.{ProcessesMayReach};
 
 mod below;
@@ -29,26 +29,26 @@ mod fair;
 
 use below::what_lies_below;
 pub use fair::{
-    fair_runs_are_led, fair_runs_catch_up, fair_runs_go_on, fair_runs_learn, fair_runs_need_peace,
+    fair_runs_get_a_leader, fair_runs_go_on, fair_runs_learn, fair_runs_need_peace,
     fair_runs_need_submits, fair_runs_need_ticks, fair_runs_promise, fair_runs_propose,
-    fair_runs_read, fair_runs_show, some_run_is_fair,
+    fair_runs_read, fair_runs_show, fair_runs_spread_keys, some_run_is_fair,
 };
 use group_world::laws::{events_are_processes, processes_are_events};
 
-/// All that waits is read within so many ticks and messages. From each world that is reached,
-/// events of the nodes of a majority, at most so many, lead to one in which each of them is up and
-/// has read each key that waited at one of them, and no key waits there any more.
+/// All that waits can be read within so many ticks and messages. From each world that is reached,
+/// some events of the nodes of a majority, at most so many, lead to one in which each of them is up
+/// and has read each key that waited at one of them, and no key waits there any more.
 ///
 /// All votes of the majority are below `left.top`, and each of its nodes has learned all but `k`
 /// places below it, or more. The numbers are linear in `k` and in the batches of the keys.
-pub fn all_is_read_within()
+pub fn all_can_be_read_within()
     ensures { (p : Parts) (group : Group) (events : List Event) (w : World) (members : ℕ → Bool)
         (k : ℕ) → IsSize group.size → IsGroup group → LeadsBy (new_world p group) events w
         → IsMajority w.group.size members → (left : HaveLeft members w)
         → HaveOpen k left.top members w
         → MayReachWithin (most_ticks w.group.size k (length (keys_waiting members w)))
         (most_messages w.group.size k (length (keys_waiting members w))) members w
-        (AllHaveCaughtUp members w.group.size (keys_waiting members w)) }
+        (AllHaveFinishedReading members w.group.size (keys_waiting members w)) }
 {
     what_lies_below();
 }
@@ -61,15 +61,17 @@ pub fn no_world_is_stuck()
     ensures { (p : Parts) (group : Group) (events : List Event) (w : World) (members : ℕ → Bool)
         → IsSize group.size → IsGroup group → LeadsBy (new_world p group) events w
         → IsMajority w.group.size members → HaveLeft members w
-        → MayReach members w (AllHaveCaughtUp members w.group.size (keys_waiting members w)) }
+        → MayReach members w
+        (AllHaveFinishedReading members w.group.size (keys_waiting members w)) }
 {
-    all_is_read_within();
+    all_can_be_read_within();
 }
 
 /// A key that is typed now at a node of the majority can be read by each of its nodes, by events of
-/// theirs alone, if fewer than 256 wait there, a serial is left, and starts, rounds, and places for
-/// the key and for all that wait are left (`HaveLeftFor`).
-pub fn a_typed_key_is_read()
+/// theirs alone, and then no key waits there. Fewer than 256 keys have to wait at the node before,
+/// and a serial has to be left there; and starts, rounds, and places for the key and for all that
+/// wait (`HaveLeftFor`).
+pub fn a_typed_key_can_be_read()
     ensures { (p : Parts) (group : Group) (events : List Event) (w : World) (members : ℕ → Bool)
         (i byte : ℕ) (m : Member) (q : Running) → IsSize group.size → IsGroup group
         → LeadsBy (new_world p group) events w → IsMajority w.group.size members
@@ -78,7 +80,7 @@ pub fn a_typed_key_is_read()
         → next_serial q.known < LAST_SERIAL + 1
         → (v : World) × Goes w (kept_event (Press i byte)) Applied v
         × MayReach members v
-        (AllHaveCaughtUp members w.group.size (keys_of (new_key q.known byte))) }
+        (AllHaveFinishedReading members w.group.size (keys_of (new_key q.known byte))) }
 {
     no_world_is_stuck();
     what_lies_below();
@@ -86,8 +88,8 @@ pub fn a_typed_key_is_read()
 
 /// No node stays full, unless numbers are spent. If 256 keys wait at a node of the majority, so
 /// that it refuses a typed byte, events of these nodes lead to a world in which none of them
-/// refuses one for that. A full outbox refuses no deed: what a deed sends is handed out before the
-/// next one.
+/// refuses one for that. No deed is refused as `OutboxFull`: a deed knows no outbox. That a host
+/// hands out what a deed sends before the next one is promised by `Host`.
 pub fn no_node_stays_full()
     ensures keys { (p : Parts) (group : Group) (events : List Event) (w : World)
         (members : ℕ → Bool) → IsSize group.size → IsGroup group
@@ -109,10 +111,10 @@ pub fn no_console_is_stuck()
     what_lies_below();
 }
 
-/// From each world that is reached the nodes of a majority can read all keys that wait at them,
-/// and then each show what the program writes in so many steps on what it has read, unless their
-/// numbers are spent.
-pub fn all_is_read_and_shown()
+/// From each world that is reached the nodes of a majority can read all keys that wait at them, so
+/// that none waits, and then each show what the program writes on what it has read, in any number
+/// of steps below 2^64, unless their numbers are spent.
+pub fn all_can_be_read_and_shown()
     ensures { (p : Parts) (group : Group) (events : List Event) (w : World) (members : ℕ → Bool)
         (steps : ℕ) → IsSize group.size → IsGroup group → LeadsBy (new_world p group) events w
         → IsMajority w.group.size members → HaveLeft members w → steps ≤ 18446744073709551615
@@ -125,8 +127,11 @@ pub fn all_is_read_and_shown()
 
 /// No group of processes is stuck. Whatever its processes have done, and whatever is lost of what
 /// is on its way, further deeds of the processes of each majority, unless their numbers are spent,
-/// lead to a group in which each of them is up, has read each key that waited at one of them, and
-/// its console begins with what the program writes in so many steps on all that it has read.
+/// lead to a group of which this holds.
+///
+/// Each of these nodes is up and has read each key that waited at one of them, no key waits there,
+/// and its console begins with what the program writes on all that it has read, in any number of
+/// steps below 2^64.
 pub fn no_group_is_stuck()
     ensures { (p : Parts) (group : Group) (log : List Entry) (now : List Member)
         (members : ℕ → Bool) (steps : ℕ) → IsSize group.size → IsGroup group
@@ -136,7 +141,7 @@ pub fn no_group_is_stuck()
         (AllHaveReadAndShown members group.size
         (keys_waiting members (after_log (new_world p group) log now)) steps) }
 {
-    all_is_read_and_shown();
+    all_can_be_read_and_shown();
     processes_are_events();
     events_are_processes();
 }

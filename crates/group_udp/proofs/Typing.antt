@@ -2,7 +2,7 @@
 use Rattle.std.proofs.lemmas.List.{length-take-le, take-append-drop, take-append-le, take_all}
 use Rattle.std.proofs.Common.{◌≡◌, ◌∙◌, ℕ, ◌≤◌, List, [], ◌∷◌, ◌++◌, drop, length, map, take, false, append_assoc, append-nil, refl, sym, ap, arith}
 use Rattle.group_node.specs.Deeds.{Press}
-use Rattle.node_io.specs.Prompts.{GivesWhatCame, KeyboardState, Remaining, before_gift, bytes_in, campaigns_in, no_keys, taken_more, with_more}
+use Rattle.node_io.specs.Prompts.{GivesWhatCame, KeyboardState, Remaining, before_gift, bytes_in, campaigns_in, looks_after, no_keys, taken_more, with_more}
 
 -- two that are the same
 pub same_left : (a b : Remaining) → a.bytes ≡ b.bytes → a.requests ≡ b.requests → a ≡ b
@@ -19,14 +19,16 @@ came_twice a c d = same_left _ _ (append_assoc a.bytes c.bytes d.bytes) (omega a
 
 -- a keyboard that has taken in what came
 pub takes_in : (old new : KeyboardState) (came : Remaining) → new.left ≡ with_more came old.left → old.is_closed ≡ false
-    → new.is_closed ≡ old.is_closed → new.taken_in ≡ taken_more came old.taken_in
+    → new.is_closed ≡ old.is_closed → new.taken_in ≡ taken_more came old.taken_in → new.looks ≡ looks_after 1 old.looks
     → GivesWhatCame old [] new
-takes_in old new came left is_open stays more = record {
+takes_in old new came left is_open stays more looked = record {
   came = came;
   whole = sym left ∙ same_left new.left (before_gift [] new.left) refl (omega arith);
   none_came = λ closed. absurd cc;
   stays = stays;
   more = more;
+  times = 1;
+  looked = looked;
 }
 
 -- typed bytes ask for no campaign

@@ -78,7 +78,7 @@ impl<H: Clock> Keyboard for TypedDatagrams<'_, H> {
     ghost use Rattle.std.specs.Prelude.{false, None};
 
     // What will come is not known, but what is left of what has come is.
-    ghost keys = { λ t. record { left = t; is_closed = false; taken_in = None } };
+    ghost keys = { λ t. record { left = t; is_closed = false; taken_in = None; looks = None } };
 
     /// Takes in the datagrams that are there, at most 256.
     fn look(&mut self) {

@@ -43,9 +43,9 @@ impl TypedQueue {
         })
     }
 
-    /// Takes in a datagram (`taken_in`). An empty one asks for a campaign if `is_apart`: if it does
-    /// not come too soon after the last request that was given. One of more than 64 bytes is
-    /// dropped, and one for which there is no room.
+    /// Takes in a datagram (`taken_in`). An empty one asks for a campaign if no request waits and
+    /// `is_apart`: if it does not come too soon after the last request that was given. One of more
+    /// than 64 bytes is dropped, and one for which there is no room.
     pub fn take_in(&mut self, datagram: &[u8], is_apart: bool)
         ensures { self.new ≡ taken_in is_apart self.old datagram.now }
     {

@@ -17,8 +17,8 @@ ghost use Rattle.group_wire.specs.Traffic.{Traffic};
 
 use paxos_acceptor::Store;
 
-/// Deeds, and then others, are deeds with the prompts of both; and so it is where a save fails in
-/// the end.
+/// To do nothing is to do deeds without a prompt. Deeds, and then others, are deeds with the
+/// prompts of both; and so it is where a save fails in the end.
 pub fn deeds_go_on<S: Store>()
     ensures none { (n : NodeState S) (from : Option Traffic) → HasActed n n from from [] }
     ensures more { (old mid new : NodeState S) (from via to : Option Traffic) (p q : List Deed)

@@ -44,28 +44,35 @@ before_gift gift left = record {
   requests = campaigns_in gift + left.requests;
 }
 
--- A keyboard: what it has left, and whether it is closed; and all that it has taken in since it was
--- opened, in order, where it remembers that. To a closed one nothing comes any more.
--- Allows: a keyboard of which it is unknown what it has taken in.
+-- A keyboard: what it has left, and whether it is closed; all that it has taken in since it was
+-- opened, in order, where it remembers that; and how often it was looked at, where it counts that.
+-- To a closed one nothing comes any more.
+-- Allows: a keyboard of which it is unknown what it has taken in, or how often it was looked at.
 pub record KeyboardState : Type 0 where
   pub left : Remaining
   pub is_closed : Bool
   pub taken_in : Option Remaining
+  pub looks : Option ℕ
 
 -- What a keyboard has taken in once this came to it.
 abbrev pub taken_more : Remaining → Option Remaining → Option Remaining
 taken_more came taken_in = option_map (λ before. with_more came before) taken_in
 
--- A keyboard that has given these prompts, and to which nothing has come meanwhile.
+-- How often a keyboard was looked at after so many looks more.
+abbrev pub looks_after : ℕ → Option ℕ → Option ℕ
+looks_after more looks = option_map (λ before. before + more) looks
+
+-- A keyboard that has given these prompts, and that nobody has looked at meanwhile.
 -- Forbids: a byte or a request that is given twice, or left out.
 pub record HasGiven (old : KeyboardState) (gift : List Deed) (new : KeyboardState) : Type 0 where
   pub whole : old.left ≡ before_gift gift new.left
   pub stays : new.is_closed ≡ old.is_closed
   pub nothing : new.taken_in ≡ old.taken_in
+  pub unseen : new.looks ≡ old.looks
 
 -- A keyboard that has given these prompts, of what it had left and what has come meanwhile. One
--- that remembers has taken in exactly that.
--- Allows: anything that comes to one that is not closed.
+-- that remembers has taken in exactly that. It was looked at so often (`times`).
+-- Allows: anything that comes to one that is not closed; no look.
 -- Forbids: a byte or a request that is given twice, or that is neither given nor left; at a closed
 -- keyboard, one that it did not have.
 pub record GivesWhatCame (old : KeyboardState) (gift : List Deed) (new : KeyboardState)
@@ -75,3 +82,5 @@ pub record GivesWhatCame (old : KeyboardState) (gift : List Deed) (new : Keyboar
   pub none_came : old.is_closed ≡ true → came ≡ no_keys
   pub stays : new.is_closed ≡ old.is_closed
   pub more : new.taken_in ≡ taken_more came old.taken_in
+  pub times : ℕ
+  pub looked : new.looks ≡ looks_after times old.looks

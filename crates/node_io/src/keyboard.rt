@@ -2,20 +2,21 @@
 ghost use Rattle.std.specs.Prelude.{◌≡◌, ◌↔◌, ◌+◌, ◌-◌, ◌<◌, ◌≤◌, [], ◌∷◌, length, min, IsTrue, if◌then◌else◌, map, take};
 ghost use Rattle.group_protocol.specs.declared.limits.TheConstants.{MOST_WAITING};
 ghost use Rattle.group_node.specs.Deeds.{Campaign, Press};
-ghost use Rattle.node_io.specs.Prompts.{GivesWhatCame, HasGiven, KeyboardState};
+ghost use Rattle.node_io.specs.Prompts.{GivesWhatCame, HasGiven, KeyboardState, looks_after};
 
 use group_protocol::limits::MOST_WAITING;
 
 /// What people do at a node: they type bytes, and ask it to campaign.
 pub trait Keyboard {
     /// What it has left of what came to it: bytes in order, and the number of requests to campaign;
-    /// whether it is closed, so that nothing comes any more; and all that it has taken in, where
-    /// it remembers that.
+    /// whether it is closed, so that nothing comes any more; all that it has taken in, where it
+    /// remembers that; and how often it was looked at, where it counts that.
     ghost keys: { Self → KeyboardState };
 
-    /// Takes in what has come since the last look.
+    /// Looks whether more has come, and takes in all of it or some. Nothing is given or lost.
     fn look(&mut self)
-        ensures came { GivesWhatCame (keys self.old) [] (keys self.new) };
+        ensures came { GivesWhatCame (keys self.old) [] (keys self.new) }
+        ensures counted { (keys self.new).looks ≡ looks_after 1 (keys self.old).looks };
 
     /// Returns true if a request to campaign is there.
     fn has_request(&self) -> bool

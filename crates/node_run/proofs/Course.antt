@@ -14,7 +14,7 @@ use Rattle.node_io.specs.declared.fault.GroupFault.{GroupFault}
 use Rattle.node_io.specs.declared.fault.GroupFault.TheVariants as group
 use Rattle.node_run.specs.Course.{Surroundings, CampaignsIf, FailsAt, HasEnded, HasMadeTurns, HasReason, around, planned}
 use Rattle.node_io.specs.Refusals.{IsCampaignRefusal}
-use Rattle.node_io.specs.Prompts.{GivesWhatCame, HasGiven, KeyboardState, Remaining, before_gift, byte_in, campaigns_in, bytes_in, no_keys, taken_more, with_more}
+use Rattle.node_io.specs.Prompts.{GivesWhatCame, HasGiven, KeyboardState, Remaining, before_gift, byte_in, campaigns_in, bytes_in, looks_after, no_keys, taken_more, with_more}
 use Rattle.node_run.specs.Answering.{left_once_given}
 use Rattle.node_run.specs.Prompted.{IsPrompted, turns_in}
 
@@ -43,7 +43,16 @@ taken_twice : (c d : Remaining) (taken_in : Option Remaining)
 taken_twice c d None = refl
 taken_twice c d (Some before) = ap Some (came_twice before c d)
 
--- a keyboard to which nothing came meanwhile
+-- and how often it was looked at
+looks_none : (looks : Option ℕ) → looks ≡ looks_after 0 looks
+looks_none None = refl
+looks_none (Some before) = ap Some (omega arith)
+
+looks_twice : (m n : ℕ) (looks : Option ℕ) → looks_after n (looks_after m looks) ≡ looks_after (n + m) looks
+looks_twice m n None = refl
+looks_twice m n (Some before) = ap Some (omega arith)
+
+-- a keyboard at which nobody looked meanwhile
 pub gives_now : {old new : KeyboardState} {gift : List Deed} → HasGiven old gift new → GivesWhatCame old gift new
 gives_now {old} {new} {gift} h = record {
   came = no_keys;
@@ -51,12 +60,15 @@ gives_now {old} {new} {gift} h = record {
   none_came = λ closed. refl;
   stays = h.stays;
   more = h.nothing ∙ taken_none old.taken_in;
+  times = 0;
+  looked = h.unseen ∙ looks_none old.looks;
 }
 
 -- a keyboard that has given nothing
 pub gift_none : (keys : KeyboardState) → GivesWhatCame keys [] keys
 gift_none keys =
-    gives_now (record { whole = same_left keys.left (before_gift [] keys.left) refl (omega arith); stays = refl; nothing = refl })
+    gives_now
+    (record { whole = same_left keys.left (before_gift [] keys.left) refl (omega arith); stays = refl; nothing = refl; unseen = refl })
 
 -- what a keyboard has left at which nothing is given
 pub looked : {old new : KeyboardState} (h : GivesWhatCame old [] new) → new.left ≡ with_more h.came old.left
@@ -79,6 +91,7 @@ given_both {c = c} {g} {h} first second = record {
   whole = first.whole ∙ ap (before_gift g) second.whole ∙ gift_twice g h c.left;
   stays = second.stays ∙ first.stays;
   nothing = second.nothing ∙ first.nothing;
+  unseen = second.unseen ∙ first.unseen;
 }
 
 pub gift_both : {a b c : KeyboardState} {g h : List Deed} → GivesWhatCame a g b → GivesWhatCame b h c → GivesWhatCame a (g ++ h) c
@@ -90,6 +103,8 @@ gift_both {a} {b} {c} {g} {h} first second = record {
       ∙ ap (with_more no_keys) (first.none_came closed);
   stays = second.stays ∙ first.stays;
   more = second.more ∙ ap (taken_more second.came) first.more ∙ taken_twice first.came second.came a.taken_in;
+  times = second.times + first.times;
+  looked = second.looked ∙ ap (looks_after second.times) first.looked ∙ looks_twice first.times second.times a.looks;
 }
 
 -- ---- prompts
@@ -117,14 +132,14 @@ pressed (b ∷ bytes) = let (all, no_campaign, no_turn) = pressed bytes in (ap (
 
 -- these bytes are the first of a text, and stand before others
 pub gift_front : (n : ℕ) (all front others back : List ℕ) → length front ≡ n → front ≡ take n all → back ≡ drop n all
-    → HasGiven (record { left = record { bytes = all; requests = 0 }; is_closed = true; taken_in = Some no_keys })
+    → HasGiven (record { left = record { bytes = all; requests = 0 }; is_closed = true; taken_in = Some no_keys; looks = None })
     (map Press (take n (front ++ others)))
-    (record { left = record { bytes = back; requests = 0 }; is_closed = true; taken_in = Some no_keys })
+    (record { left = record { bytes = back; requests = 0 }; is_closed = true; taken_in = Some no_keys; looks = None })
 gift_front n all front others back long is left =
     let (typed, no_campaign, _) = pressed (take n (front ++ others)) in
     let whole : all ≡ take n (front ++ others) ++ back =
     grind (arith, common_steps, take-append_seam front others, take-append-drop n all, long, is, left) in
-    record { whole = rw (typed, no_campaign, ← whole) refl; stays = refl; nothing = refl }
+    record { whole = rw (typed, no_campaign, ← whole) refl; stays = refl; nothing = refl; unseen = refl }
 
 -- what is left once all was given for which there was room
 pub left_given : (room n : ℕ) (given : List ℕ) (old new : Remaining) → old ≡ before_gift (map Press given) new

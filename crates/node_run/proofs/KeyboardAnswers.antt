@@ -20,7 +20,7 @@ use Rattle.node_run.specs.declared.retries.Retried.{Retried}
 use Rattle.node_run.specs.declared.retries.Retried.TheVariants as again
 use Rattle.node_run.specs.Retries.{HasRetried, retries_unless_leading}
 use Rattle.group_protocol.specs.Known.{Known}
-use Rattle.node_io.specs.Prompts.{GivesWhatCame, HasGiven, KeyboardState, Remaining, before_gift}
+use Rattle.node_io.specs.Prompts.{GivesWhatCame, HasGiven, KeyboardState, Remaining, before_gift, looks_after}
 use Rattle.node_run.proofs.Course.{gift_both, gift_none, given_both, gives_now, not_given, prompted, prompted_lost, prompted_typed, same_left, save_ended}
 
 -- where all of some bytes have room, none is left
@@ -149,26 +149,30 @@ by_answer kind old new t u (CampaignRefused f) given h = (given, h)
 
 -- a request was there
 pub answered_request : {S : Type 0} (kind : StoreKind S) (old new : NodeState S) (t u : Option Traffic) {keys seen left : KeyboardState}
-    (had has : ℕ) (result : Result Answered GroupFault) → GivesWhatCame keys [] seen → HasGiven seen (Campaign ∷ []) left
+    (had has : ℕ) (result : Result Answered GroupFault) → GivesWhatCame keys [] seen → seen.looks ≡ looks_after 1 keys.looks
+    → HasGiven seen (Campaign ∷ []) left
     → HasCampaignedAsAsked kind old new t u result → IfOk result (λ answer. has ≡ retries_after answer had)
     → IfOk result (λ answer. AnswersWhatCame kind answer old new (around t keys had) (around u left has))
-answered_request kind old new t u {seen = seen} {left} had has (Ok answer) look given h again = record {
+answered_request kind old new t u {seen = seen} {left} had has (Ok answer) look once given h again = record {
   seen = seen;
   looks = look;
+  once = once;
   did = by_answer kind old new t u answer given h;
   all = sym (request_taken (room_of old) left.left) ∙ ap (left_once_answered (room_of old)) (sym given.whole);
   again = again;
 }
-answered_request kind old new t u had has (Err e) look given h again = tt
+answered_request kind old new t u had has (Err e) look once given h again = tt
 
 -- none was there
 pub answered_bytes : {S : Type 0} (kind : StoreKind S) {old new : NodeState S} (at : Option Traffic)
-    {keys seen via left : KeyboardState} {retries : ℕ} → GivesWhatCame keys [] seen → HasGiven seen [] via → ¬ (0 < seen.left.requests)
+    {keys seen via left : KeyboardState} {retries : ℕ} → GivesWhatCame keys [] seen → seen.looks ≡ looks_after 1 keys.looks
+    → HasGiven seen [] via → ¬ (0 < seen.left.requests)
     → left.left ≡ left_once_given (room_of old) via.left → HasTypedGiven old new via left (Ok tt)
     → AnswersWhatCame kind Bytes old new (around at keys retries) (around at left retries)
-answered_bytes kind {old} at {seen = seen} look given none all (typed, typed_of, acts) = record {
+answered_bytes kind {old} at {seen = seen} look once given none all (typed, typed_of, acts) = record {
   seen = seen;
   looks = look;
+  once = once;
   did = (typed, given_both given typed_of, acts at);
   all = all ∙ ap (left_once_given (room_of old)) (not_given given) ∙ sym (none_taken (room_of old) seen.left none);
   again = refl;

@@ -1,5 +1,5 @@
 -- What is no part of a cycle: a keyboard that is passed over, and output that is left.
-use Rattle.std.proofs.Common.{◌≡◌, ◌+◌, ◌^◌, ◌<◌, ◌∙◌, ℕ, List, [], ◌∷◌, Ok, length, sym, ap, subst, arith}
+use Rattle.std.proofs.Common.{◌≡◌, ◌+◌, ◌^◌, ◌<◌, ◌∙◌, ℕ, List, [], ◌∷◌, Option, Ok, Some, length, sym, ap, subst, arith}
 use Rattle.std.proofs.lemmas.List.{length-drop}
 use Rattle.paxos_acceptor.specs.Stores.{StoreKind}
 use Rattle.group_protocol.specs.declared.limits.TheConstants.{MOST_WAITING}
@@ -7,12 +7,14 @@ use Rattle.group_node.specs.declared.player.Ran.{Ran}
 use Rattle.group_node.specs.declared.player.Ran.TheVariants.{More}
 use Rattle.group_node.specs.Output.{IsOver, RunsOn, most_of}
 use Rattle.group_node.specs.NodeCalls.{running, unreleased_by}
-use Rattle.group_node.specs.States.{input}
+use Rattle.group_node.specs.States.{NodeState, input}
 use Rattle.group_wire.specs.declared.answers.Turned.{Turned}
 use Rattle.group_wire.specs.declared.limits.TheConstants.{TURN_STEPS}
-use Rattle.node_io.specs.Prompts.{GivesWhatCame, KeyboardState, Remaining, no_keys, with_more}
+use Rattle.group_wire.specs.Traffic.{Traffic}
+use Rattle.node_io.specs.Prompts.{GivesWhatCame, KeyboardState, Remaining, looks_after, no_keys, with_more}
 use Rattle.node_run.specs.declared.answering.Answered.{Answered}
-use Rattle.node_run.specs.Answering.{left_once_answered, room_of}
+use Rattle.node_run.specs.declared.answering.Answered.TheVariants.{Bytes, Campaigned, CampaignRefused, Ignored}
+use Rattle.node_run.specs.Answering.{AnswersSeen, left_once_answered, room_of}
 use Rattle.node_run.specs.Cycles.{AnswersKeyboard, ReleasesOutput, RunMoment, TakesTurn}
 use Rattle.node_run.specs.ClosedKeyboards.{closed_with}
 use Rattle.node_run.proofs.Course.{looked, with_none}
@@ -23,6 +25,14 @@ seen_is : (bytes : List ℕ) (requests : ℕ) (k seen : KeyboardState) → k ≡
 seen_is bytes requests k seen is h =
     let none : h.came ≡ no_keys = h.none_came (ap (λ (q : KeyboardState). q.is_closed) is) in
     looked h ∙ ap (λ (c : Remaining). with_more c k.left) none ∙ with_none k.left ∙ ap (λ (q : KeyboardState). q.left) is
+
+-- nobody looks at a keyboard while it gives
+gives_unseen : {S : Type 0} (kind : StoreKind S) (answer : Answered) (old new : NodeState S) (from to : Option Traffic)
+    (seen left : KeyboardState) → AnswersSeen kind answer old new from to seen left → left.looks ≡ seen.looks
+gives_unseen kind Bytes old new from to seen left (typed, given, acts) = given.unseen
+gives_unseen kind Campaigned old new from to seen left (given, asked) = given.unseen
+gives_unseen kind Ignored old new from to seen left (given, asked) = given.unseen
+gives_unseen kind (CampaignRefused f) old new from to seen left (given, asked) = given.unseen
 
 module _ {S : Type 0} (kind : StoreKind S) where
   -- what is left is what is there, and what is left of that once it was answered
@@ -46,6 +56,16 @@ module _ {S : Type 0} (kind : StoreKind S) where
   request_left answer a b bytes requests some is same h =
       let left = left_same answer a b bytes requests is same h in
       grind (arith, some, ap (λ (l : Remaining). l.requests) left)
+
+  pub unseen : (answer : Answered) (a b : RunMoment S) (looks : ℕ) → a.around.keyboard.looks ≡ Some looks
+      → b.around.keyboard.looks ≡ a.around.keyboard.looks → ¬ AnswersKeyboard kind answer a b
+  unseen answer a b looks counts same h =
+      let once : h.did.seen.looks ≡ Some (looks + 1) = h.did.once ∙ ap (looks_after 1) counts in
+      let given : b.around.keyboard.looks ≡ h.did.seen.looks = gives_unseen kind answer a.node b.node
+      a.around.traffic b.around.traffic h.did.seen b.around.keyboard h.did.did in
+      let both : Some looks ≡ Some (looks + 1) = sym counts ∙ sym same ∙ given ∙ once in
+      let less : looks ≡ looks + 1 = cc in
+      absurd (omega (arith, less))
 
   pub no_steps : (begun : ℕ) (turned : Turned) (a b : RunMoment S) → turned.ran ≡ More → a.node.progress.steps + 1 < 2 ^ 64
       → b.node.progress ≡ a.node.progress → ¬ TakesTurn kind begun turned a b

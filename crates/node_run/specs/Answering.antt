@@ -16,7 +16,7 @@ use Rattle.node_run.specs.declared.answering.Answered.{Answered}
 use Rattle.node_run.specs.declared.answering.Answered.TheVariants.{Bytes, Campaigned, CampaignRefused, Ignored}
 use Rattle.node_run.specs.Course.{Surroundings, FailsAt, HasEnded, HasReason}
 use Rattle.node_run.specs.declared.limits.TheConstants.{MOST_RETRIES}
-use Rattle.node_io.specs.Prompts.{GivesWhatCame, HasGiven, KeyboardState, Remaining}
+use Rattle.node_io.specs.Prompts.{GivesWhatCame, HasGiven, KeyboardState, Remaining, looks_after}
 use Rattle.node_io.specs.Refusals.{IsCycleRefusal}
 
 -- A node that leads without a gap: each vote of its record is at a place below its known front.
@@ -92,14 +92,15 @@ retries_after Campaigned retries = MOST_RETRIES
 retries_after Ignored retries = 0
 retries_after (CampaignRefused f) retries = 0
 
--- A keyboard that is looked at, and then answered by what it has: by a request, if one is there, or
--- else by all bytes for which the node has room.
--- Forbids: a request that is passed over; a byte that is given while a request is there; if none is
--- there, a byte that is left though there is room.
+-- A keyboard that is looked at once, and then answered by what it has: by a request, if one is
+-- there, or else by all bytes for which the node has room.
+-- Forbids: a keyboard at which nobody looks; a request that is passed over; a byte that is given
+-- while a request is there; if none is there, a byte that is left though there is room.
 pub record AnswersWhatCame {S : Type 0} (kind : StoreKind S) (answer : Answered)
     (old new : NodeState S) (from to : Surroundings) : Type 0 where
   pub seen : KeyboardState
   pub looks : GivesWhatCame from.keyboard [] seen
+  pub once : seen.looks ≡ looks_after 1 from.keyboard.looks
   pub did : AnswersSeen kind answer old new from.traffic to.traffic seen to.keyboard
   pub all : to.keyboard.left ≡ left_once_answered (room_of old) seen.left
   pub again : to.retries ≡ retries_after answer from.retries

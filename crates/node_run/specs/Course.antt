@@ -70,7 +70,8 @@ pub record HasEnded {S : Type 0} (kind : StoreKind S) (first : List Deed) (old n
       prompts
   pub due : HasReason e new.protocol.known
 
--- A call that is refused only because a save of the node fails now: then these are the prompts.
+-- A call that is refused as `Store`: a save of the node failed in it, at the end of deeds with
+-- these prompts.
 pub record FailsAt {S : Type 0} (kind : StoreKind S) (old new : NodeState S)
     (from to : Option Traffic) (failing : List Deed) (e : GroupFault) : Type 0 where
   pub store : e ≡ group.Node Store

@@ -64,8 +64,8 @@ HearsAtRest {S} {T} kind old new from to (Err e) =
     × HearsTimes kind times old mid from via × HasActed old mid from via []
     × HearsOnce {T = T} kind mid new via to (Err e) × FailsAt kind mid new via to [] e
 
--- A rest: the node hears what comes, which are deeds without a prompt. Something may come to its
--- keyboard, and nothing is taken from that.
+-- A rest: the node hears what comes, which are deeds without a prompt. It may look at its keyboard,
+-- to which something may come, and takes nothing from that.
 -- Allows: no receive, also if the node is not busy.
 pub record Rests {S : Type 0} (kind : StoreKind S) (a b : RunMoment S) : Type 0 where
   pub times : ℕ
@@ -81,8 +81,8 @@ pub record CampaignsAgain {S : Type 0} (kind : StoreKind S) (retried : Retried)
   pub did : HasRetried kind a.node b.node a.around b.around (Ok retried)
   pub unwritten : b.written ≡ a.written
 
--- The keyboard is looked at and answered: the node campaigns, or types all bytes for which it has
--- room.
+-- The node looks at its keyboard once and answers it: it campaigns, or types all bytes for which it
+-- has room.
 pub record AnswersKeyboard {S : Type 0} (kind : StoreKind S) (answer : Answered)
     (a b : RunMoment S) : Type 0 where
   pub did : AnswersWhatCame kind answer a.node b.node a.around b.around
@@ -132,7 +132,7 @@ pub record IsCycleUpToRelease {S : Type 0} (kind : StoreKind S) (a b : RunMoment
   pub turns : TakesTurn kind (front_at a) turned answered b
   pub stays : SameReleased a.node b.node
 
--- A cycle: then all output that waits is released, and written from number `seen` on.
+-- A cycle. At its end all output that waits is released, and written from number `seen` on.
 pub record IsCycle {S : Type 0} (kind : StoreKind S) (seen : ℕ) (a b : RunMoment S) : Type 0 where
   pub mid : RunMoment S
   pub turns : IsCycleUpToRelease kind a mid

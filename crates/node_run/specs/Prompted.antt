@@ -21,8 +21,9 @@ turns_in prompts = length (filter is_run prompts)
 -- again before, and `left` how often it may now: its campaigns and `left` together are at most four
 -- for each request, and `had`.
 -- Allows: a campaign that was asked for, and could not begin, or that a leader has ignored.
--- Forbids: a byte that is typed twice; if `had` is 0, a campaign that nobody asked for, or more
--- than four campaigns for each request, all together.
+-- Allows: a campaign before the request that counts for it.
+-- Forbids: a byte that is typed twice; if `had` is 0, more campaigns in all than four for each
+-- request, so any where nobody asked.
 pub record IsPrompted (gift : List Deed) (turns had left : ℕ) (spent : Type 0)
     (prompts : List Deed) : Type 0 where
   pub lost : List ℕ

@@ -77,11 +77,13 @@ pub record RunsNode {S : Type 0} (kind : StoreKind S) (me : Me) (program : Parts
   pub none_waits : OnOk result (unreleased_by last ≡ [])
 
 -- A run of a node as its cycles: from the node that one load of the store gave to the one that
--- leaves the store `end`. It says what the node did in which order: it heard, answered its
--- keyboard, ticked, ran its machine and released its output in each cycle. In the end its machine
--- is where a replay is. If the store is honest and no save has failed, a restart may load from
--- `end` only the node's record. That it is a process then is a law (`cycles_are_a_run`).
--- Forbids: a cycle without its turn, its release, or its look at the keyboard.
+-- leaves the store `end`. It says what the node did in which order. In each cycle it rests,
+-- campaigns again if that is due, looks at its keyboard and answers it, takes its turn (it hears,
+-- ticks if that is due, and runs its machine), and releases its output. In the end its machine is
+-- where a replay is. If the store is honest and no save has failed, a restart may load from `end`
+-- only the node's record. That it is a process then is a law (`cycles_are_a_run`).
+-- Forbids: a cycle without its turn, its release, or its look at the keyboard, but for the one that
+-- is refused.
 pub record RunsInCycles {S : Type 0} (kind : StoreKind S) (me : Me) (program : Parts)
     (store end : S) (plan : RunPlan) (from to : Surroundings) (before after : Option (List ℕ))
     (result : Result (Unit {0}) GroupFault) : Type 0 where

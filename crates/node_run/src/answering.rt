@@ -20,7 +20,7 @@ pub enum Answered {
     Bytes,
     /// It was asked to campaign, and did.
     Campaigned,
-    /// It was asked to campaign, and leads already, with nothing missing.
+    /// It was asked to campaign. It leads already, and each of its votes is below its known front.
     Ignored,
     /// It was asked to campaign, and could not.
     CampaignRefused(NodeFault),

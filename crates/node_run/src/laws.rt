@@ -22,12 +22,13 @@ use group_wire::laws::deeds_go_on;
 use paxos_acceptor::Store;
 use pcode_machine::laws::{output_only_grows, prefixes_are_ordered};
 
-/// A start with `--seen 0` writes the first bytes of its output. After a later start that gets the
-/// console's length the console shows the first bytes of one output: as many as the console showed
-/// before, or as that start released, whichever is more.
+/// What a start releases from number `--seen` on continues what earlier starts have written. With
+/// `--seen 0` it is the first bytes of the output. A later start gets the number of bytes that were
+/// written (`console`). What it releases from there on, put behind them, is the first bytes of one
+/// output: as many as were written before, or as that start released, whichever is more.
 ///
-/// Premises: the console showed output of the program on the earlier input; of both learned inputs
-/// one continues the other, as with two starts in one group; no write of the later start fails.
+/// Premises: what was written is output of the program on the earlier input; of both learned inputs
+/// one continues the other, as with two starts in one group.
 pub fn consoles_go_on()
     ensures first { (x : List ℕ) (q : Progress) → IsReplay x q
         → AreFirst q.program x q.released (released_from 0 x q) }
@@ -60,9 +61,10 @@ pub fn cycles_are_a_run<S: Store>()
     deeds_go_on::<S>();
 }
 
-/// What is no part of a cycle. A keyboard with a request is not passed over, nor one with bytes if
-/// the node has room for one. A turn after which the machine has more to do has made steps. Output
-/// that waits is not left at the end of a cycle.
+/// What is no part of a cycle. A keyboard that counts looks is not left without one. A closed
+/// keyboard does not stay as it is if it has a request, or bytes while the node has room for one.
+/// If the machine has more to do after a turn, and less than 2^64 - 1 steps before it, its progress
+/// has changed. Output that waits is not left at the end of a cycle.
 pub fn wrong_cycles<S: Store>()
     ensures bytes_left { (answer : Answered) (a b : RunMoment S) (byte : ℕ) (bytes : List ℕ)
         → length a.node.protocol.known.waiting < MOST_WAITING
@@ -71,6 +73,9 @@ pub fn wrong_cycles<S: Store>()
     ensures request_left { (answer : Answered) (a b : RunMoment S) (bytes : List ℕ) (requests : ℕ)
         → 0 < requests → a.around.keyboard ≡ closed_with bytes requests
         → b.around.keyboard ≡ a.around.keyboard → ¬ AnswersKeyboard S.kind answer a b }
+    ensures unseen { (answer : Answered) (a b : RunMoment S) (looks : ℕ)
+        → a.around.keyboard.looks ≡ Some looks
+        → b.around.keyboard.looks ≡ a.around.keyboard.looks → ¬ AnswersKeyboard S.kind answer a b }
     ensures no_steps { (begun : ℕ) (turned : Turned) (a b : RunMoment S) → turned.ran ≡ Ran.More
         → a.node.progress.steps + 1 < 2 ^ 64 → b.node.progress ≡ a.node.progress
         → ¬ TakesTurn S.kind begun turned a b }

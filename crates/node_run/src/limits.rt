@@ -4,5 +4,5 @@
 /// is over: if many datagrams ended it, the tick after it would bring as many again.
 pub const MOST_RESTING: u32 = 65_536;
 
-/// How often a node campaigns again for one request, if its ballot is refused each time.
+/// How often at most a node campaigns again for one request, if its ballot is refused each time.
 pub const MOST_RETRIES: u8 = 3;

@@ -87,9 +87,9 @@ fn rest_once<T: RestingWire, K: Keyboard, S: Store>(
 }
 
 /// Hears what comes to a node that has nothing to do, until the rest has taken its time, the
-/// keyboard calls, or a place has become known and `ends_rest` returns true. What a message asks
-/// for is done when it is heard, so it needs no tick; and a tick after each would make the other
-/// nodes tick in turn, without end.
+/// keyboard calls, a place has become known and `ends_rest` returns true, or 65,536 receives were
+/// made. What a message asks for is done when it is heard, so it needs no tick; and a tick after
+/// each would make the other nodes tick in turn, without end.
 fn rest<T: RestingWire, K: Keyboard, S: Store>(
     host: &mut Host<'_, S>,
     endpoints: &mut Endpoints<T, K>,
@@ -153,8 +153,8 @@ pub fn is_busy_after(ran: Ran) -> bool {
     }
 }
 
-/// Takes a turn of the node on its wire, whose known front was at `begun` when its cycle began.
-/// Returns why its run ended.
+/// Takes a turn of a node on its wire. The node's known front was at `begun` when its cycle began.
+/// Returns why its machine stopped.
 pub fn own_turn<T: Wire, S: Store>(
     host: &mut Host<'_, S>,
     wire: &mut T,

@@ -14,7 +14,7 @@ use paxos_acceptor::Store;
 /// What a node did about a refused ballot.
 #[derive(Clone, Copy, Debug, PartialEq, Eq)]
 pub enum Retried {
-    /// Nothing: no request is open, or its ballot was not refused.
+    /// It did not campaign, as that was not due (`IsRetryDue`).
     NotDue,
     /// It campaigned again.
     Campaigned,
@@ -34,9 +34,10 @@ fn is_ballot_refused<S: Store>(node: &Node<'_, S>) -> bool
 }
 
 /// Campaigns once more, under a ballot above the one that refused it, if the node was asked to
-/// campaign and its ballot was refused. It does so at most three times for a request: no more once
-/// it leads, and not while it has promised a ballot that is not below the one that refused it. A
-/// campaign that does not begin ends that, and the node continues as it was.
+/// campaign and its ballot was refused. It does so as often as `endpoints.retries` says, which is 3
+/// after a request: no more once it leads, and not while it has promised a ballot that is not below
+/// the one that refused it. A campaign that does not begin ends that, and the node continues as it
+/// was.
 pub fn campaign_again<T: Wire, K: Keyboard, S: Store>(
     host: &mut Host<'_, S>,
     endpoints: &mut Endpoints<T, K>,

@@ -31,8 +31,8 @@ pub struct NodeEnd<S> {
     pub done: Result<(), GroupFault>,
 }
 
-/// Traces how the run of a node ended: that a save failed, if one did, and the exit status of
-/// the process. Returns how it ended.
+/// Traces how the run of a node ended: that the store's device failed, at the load or a save, if it
+/// did, and the exit status of the process. Returns how it ended.
 fn trace_end<T: Wire>(wire: &mut T, done: Result<(), GroupFault>) -> Result<(), GroupFault>
     ensures same { result ≡ done }
     ensures passed { T.traffic wire.new ≡ T.traffic wire.old }
@@ -55,13 +55,15 @@ fn trace_end<T: Wire>(wire: &mut T, done: Result<(), GroupFault>) -> Result<(), 
 /// are lost: at least one, and at most 256. At `Ok` all output of the machine is released.
 ///
 /// A start that is refused ends it, and nothing passes, nothing is typed, and nothing is written.
-/// Else it ends at the first failed save or write, if the plan's campaign is refused, or where a
-/// byte is typed and the serials are spent.
+/// Otherwise it ends before its last turn only for one of these reasons:
+/// - a save or a write failed
+/// - the plan's campaign was refused
+/// - a byte was typed, and the serials are spent
 ///
-/// `config` is seen as what it says of the node and its group. The store is one of that node, or of
-/// no node in particular, and is given back as such. The record that an honest one loaded is one
-/// that a restart might have loaded before. Afterwards a restart may load the record of the process
-/// and no other; after a save that failed, that record or the one that was to be saved.
+/// Contracts see of `config` the node and its group. The store is one of that node, or of no node
+/// in particular, and is given back as such. The record that an honest store loaded is one that a
+/// restart might have loaded before. Of an honest store a restart may load afterwards the record of
+/// the process and no other; after a save that failed, that record or the one that was to be saved.
 pub fn run_node<H: Clock, T: CountedWire, K: Keyboard, S: Store + Drop, W: ByteWriter, E: Write>(
     alloc: Global,
     program: &Program,

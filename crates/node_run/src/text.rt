@@ -10,7 +10,7 @@ pub struct Text<'a> {
 }
 
 impl Keyboard for Text<'_> {
-    ghost use Rattle.std.specs.Prelude.{true, Some};
+    ghost use Rattle.std.specs.Prelude.{true, None, Some};
     ghost use Rattle.node_io.specs.Prompts.{no_keys};
 
     // All of it is there, and nothing more comes.
@@ -18,6 +18,7 @@ impl Keyboard for Text<'_> {
       left = record { bytes = t.left.now; requests = 0 };
       is_closed = true;
       taken_in = Some no_keys;
+      looks = None;
     } };
 
     fn look(&mut self) {}

@@ -52,9 +52,10 @@ keyboard_at_first None text = record {
   left = record { bytes = text; requests = 0 };
   is_closed = true;
   taken_in = Some no_keys;
+  looks = None;
 }
 keyboard_at_first (Some address) text =
-    record { left = no_keys; is_closed = false; taken_in = None }
+    record { left = no_keys; is_closed = false; taken_in = None; looks = None }
 
 -- Such a run with the keyboard of the plan.
 abbrev pub RunsOpened : Me → Parts → NodePlan → List ℕ → Option (List ℕ) → Option (List ℕ)

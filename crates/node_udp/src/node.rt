@@ -143,8 +143,8 @@ fn node_noted<
 }
 
 /// Runs the plan's node over its record, up to the first refusal (`EndsNode`): it starts, and runs
-/// as `plan.run` says, as by `run_node`. It is a process of its group over a load of the store at
-/// the plan's path.
+/// as `plan.run` says, as by `run_node`. It is a process of its group over a load of some store;
+/// which file that is, no contract says.
 ///
 /// What is typed is a prefix of what the reader had left, or comes as datagrams. `writer` gets each
 /// byte that the node has released, from number `plan.run.seen` on, once and in order, and nothing
@@ -155,7 +155,7 @@ fn node_noted<
 /// start leaves `writer` as it was. What the system's files hold and what passes over its sockets
 /// is unknown to contracts.
 ///
-/// `errors` gets the notes of the node, if the plan asks for a log.
+/// `errors` gets the notes of the node, if the plan asks for a log. No contract says what they are.
 pub fn node_file<
     H: Files<File = File> + Net + Clock + AllocGlobal + Copy + Drop,
     R: Read,

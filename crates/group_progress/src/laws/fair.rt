@@ -15,7 +15,7 @@ ghost use Rattle.group_node.specs.NodeCalls.{Running};
 ghost use Rattle.paxos_msg.specs.declared.ballot.Ballot.{Ballot};
 ghost use Rattle.paxos_msg.specs.Batches.{Vote};
 ghost use Rattle.paxos_proposer.specs.Proposer.{next_of, Proposer};
-ghost use Rattle.group_progress.specs.Fair.{AllHaveLearned, AllHoldPromise, AllIsRead, AllIsShown, Endless, FairRunsGoOn, HasFairRun, HasProposedPast, IsFair, IsLeading, IsLed, KeepsPlaying, Later};
+ghost use Rattle.group_progress.specs.Fair.{AllHaveLearned, AllHoldPromise, AllIsRead, AllIsShown, Endless, FairRunsGoOn, HasFairRun, HasProposedPast, IsFair, LeadsAllPlaces, IsLed, KeepsPlaying, Later};
 ghost use Rattle.group_progress.specs.Stuck.{HasStuckRun, HearsAll, HearsAllButSubmits, HearsAndTicks, IsLedCalmly, IsLedOpenly};
 ghost use Rattle.group_progress.specs.GoingOn.{AllHaveRead};
 
@@ -35,20 +35,20 @@ pub fn fair_runs_promise()
 
 /// In each fair run the node that campaigned comes to lead: it proposes under its ballot, and knows
 /// that a majority has promised all places, from some moment on.
-pub fn fair_runs_are_led()
+pub fn fair_runs_get_a_leader()
     ensures { (p : Parts) (group : Group) (events : List Event) (w : World) (members : ℕ → Bool)
         (leader : ℕ) (b : Ballot) (run : Endless w)
         → IsSize group.size → IsGroup group → LeadsBy (new_world p group) events w
         → IsMajority w.group.size members → IsLed members leader b run → IsFair members run
         → Later 0 (λ t. (among : ℕ → Bool) × IsMajority w.group.size among
-        × ((u : ℕ) → t ≤ u → IsLeading among b leader (run.world u))) }
+        × ((u : ℕ) → t ≤ u → LeadsAllPlaces among b leader (run.world u))) }
 {
     what_lies_below();
 }
 
 /// In each fair run what one node of the majority has read is read by each of them, from some
 /// moment on.
-pub fn fair_runs_catch_up()
+pub fn fair_runs_spread_keys()
     ensures { (p : Parts) (group : Group) (events : List Event) (w : World) (members : ℕ → Bool)
         (leader : ℕ) (b : Ballot) (run : Endless w) (j n : ℕ) (m : Member) (q : Running)
         → IsSize group.size → IsGroup group → LeadsBy (new_world p group) events w
@@ -102,8 +102,9 @@ pub fn fair_runs_read()
     what_lies_below();
 }
 
-/// In each run that is led, a node of the majority that runs and releases again and again shows
-/// what its program writes on what it has read.
+/// In each run that is led, one of its nodes that runs and releases again and again shows what its
+/// program writes on what it has read, in any number of steps below 2^64. Neither a majority nor a
+/// fair network is needed.
 pub fn fair_runs_show()
     ensures { (p : Parts) (group : Group) (events : List Event) (w : World) (members : ℕ → Bool)
         (leader : ℕ) (b : Ballot) (run : Endless w) (i n : ℕ)
@@ -114,10 +115,11 @@ pub fn fair_runs_show()
     what_lies_below();
 }
 
-/// Fair runs go on. In each endless run in which one node leads a majority, each node of it ticks
-/// again and again, and what they send to each other is heard, each key that waits at one of them
-/// is read by all of them. If a node of the majority also runs and releases again and again, each
-/// byte that the program writes on what the node has read comes to its console.
+/// Fair runs go on. Let one node lead a majority in an endless run, let each node of it tick again
+/// and again, and let what they send to each other be heard. Then each key that waits at one of
+/// them is read by all of them. If a node of the majority also runs and releases again and again,
+/// each byte that the program writes on what the node has read, in fewer than 2^64 steps, comes to
+/// its console.
 pub fn fair_runs_go_on()
     ensures { (p : Parts) (group : Group) → IsSize group.size → IsGroup group
         → FairRunsGoOn p group }
@@ -125,8 +127,8 @@ pub fn fair_runs_go_on()
     what_lies_below();
 }
 
-/// Some run is led and fair, for each program and each group: the premises of the laws of fair runs
-/// can be met.
+/// Some run is led and fair, for each program and each group. No clause says that a key waits in
+/// it, that a vote is kept, or that a node runs and releases again and again.
 pub fn some_run_is_fair()
     ensures { (p : Parts) (group : Group) → IsSize group.size → IsGroup group → HasFairRun p group }
 {
@@ -151,8 +153,9 @@ pub fn fair_runs_need_submits()
     what_lies_below();
 }
 
-/// Fair runs need peace: in some run of a group of three or more that is fair, and led but for an
-/// old Prepare that is heard, a key that waits is never read.
+/// Fair runs need peace: some run of a group of three or more is fair, and led, but that the
+/// leading node hears an old Prepare above its ballot (`IsLedOpenly`), and a key that waits is
+/// never read.
 pub fn fair_runs_need_peace()
     ensures { (p : Parts) (group : Group) → IsSize group.size → IsGroup group → 1 < group.size
         → HasStuckRun IsLedOpenly HearsAndTicks p group }

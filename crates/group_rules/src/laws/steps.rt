@@ -121,7 +121,8 @@ pub fn wrong_votes()
         (kept_by 3 (ballot_by 5 39)) }
 {}
 
-/// A campaign saves the promise of an own ballot, above the promised one, and nothing else.
+/// Steps that are no campaigns. The promise is of another node's ballot, or of one below the
+/// promised one; nothing is saved; a start is counted too; or a vote is forgotten.
 pub fn wrong_campaigns()
     // Campaigns.call: the node.
     ensures for_another_node { ¬ WorldStep (nine_keep kept_third) 9 deed.Campaign

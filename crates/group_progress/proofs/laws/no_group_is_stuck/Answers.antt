@@ -8,5 +8,5 @@ pub returns : goal.returns
 returns c = λ p group log now members steps size session logged most left low.
     let w = after_log (new_world p group) log now in
     let before = c.processes_are_events.ensures (new_world p group) log now logged in
-    let reach = c.all_is_read_and_shown.ensures p group before.0 w members steps size session before.2 most left low in
+    let reach = c.all_can_be_read_and_shown.ensures p group before.0 w members steps size session before.2 most left low in
     processes_reach c.events_are_processes.ensures members w (AllHaveReadAndShown members group.size (keys_waiting members w) steps) reach

@@ -14,7 +14,7 @@ returns-then-take_request-clause-answered g c =
 pub returns-then-take_request-clause-takes : goal.returns-then-take_request-clause-takes
 returns-then-take_request-clause-takes g c =
     rw c.answer_request.ensures.untyped
-    (answered_request g.S.Store.kind _ _ _ _ _ _ c.answer_request.result c.look.ensures.came
+    (answered_request g.S.Store.kind _ _ _ _ _ _ c.answer_request.result c.look.ensures.came c.look.ensures.counted
     (rw c.if-take_request.true at c.take_request.ensures.asked) c.answer_request.ensures.campaigned c.answer_request.ensures.retries)
 
 pub returns-in_err-type_given-clause-answered : goal.returns-in_err-type_given-clause-answered
@@ -33,6 +33,6 @@ returns-clause-answered g c =
 pub returns-clause-takes : goal.returns-clause-takes
 returns-clause-takes g c =
     rw (c.in_ok-type_given.ensures.passed, c.in_ok-type_given.ensures.retries)
-    (answered_bytes g.S.Store.kind _ c.look.ensures.came (rw c.if-take_request.false at c.take_request.ensures.asked)
+    (answered_bytes g.S.Store.kind _ c.look.ensures.came c.look.ensures.counted (rw c.if-take_request.false at c.take_request.ensures.asked)
     (λ some. let is = c.take_request.ensures.taken some in grind arith) c.in_ok-type_given.ensures.takes
     c.in_ok-type_given.ensures.typed)

@@ -9,4 +9,5 @@ returns-clause-given g c = record {
       c.give.ensures.left;
   stays = refl;
   nothing = refl;
+  unseen = refl;
 }

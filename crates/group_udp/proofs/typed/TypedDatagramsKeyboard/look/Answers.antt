@@ -10,7 +10,10 @@ pub returns-then-not-take_in : goal.returns-then-not-take_in
 returns-then-not-take_in g c =
     let (came, left) = c.loop.invariant in
     let (more, next) = c.take_in.ensures.came in
-    record { came = takes_in _ _ (with_more more came) (next ∙ ap (with_more more) left ∙ came_twice _ came more) refl refl refl }
+    record {
+      came = takes_in _ _ (with_more more came) (next ∙ ap (with_more more) left ∙ came_twice _ came more) refl refl refl refl;
+      counted = refl;
+    }
 
 pub loop-preserved : goal.loop-preserved
 loop-preserved g c =
@@ -19,4 +22,4 @@ loop-preserved g c =
     (with_more more came, next ∙ ap (with_more more) left ∙ came_twice _ came more)
 
 pub returns : goal.returns
-returns g c = let (came, left) = c.loop.invariant in record { came = takes_in _ _ came left refl refl refl }
+returns g c = let (came, left) = c.loop.invariant in record { came = takes_in _ _ came left refl refl refl refl; counted = refl }

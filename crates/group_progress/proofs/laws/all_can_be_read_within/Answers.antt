@@ -1,5 +1,5 @@
 use Rattle.group_progress.proofs.Starting.{all_read, reached}
-use Rattle.group_progress.proofs.laws.all_is_read_within.Goals as goal
+use Rattle.group_progress.proofs.laws.all_can_be_read_within.Goals as goal
 
 pub returns : goal.returns
 returns c = λ p group list w members k size session leads most left few.

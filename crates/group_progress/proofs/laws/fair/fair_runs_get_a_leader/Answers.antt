@@ -1,6 +1,6 @@
 use Rattle.group_progress.proofs.Covered.{leads_on}
 use Rattle.group_progress.proofs.Starting.{reached}
-use Rattle.group_progress.proofs.laws.fair.fair_runs_are_led.Goals as goal
+use Rattle.group_progress.proofs.laws.fair.fair_runs_get_a_leader.Goals as goal
 
 pub returns : goal.returns
 returns c = λ p group list w members leader b run size session leads most led fair.

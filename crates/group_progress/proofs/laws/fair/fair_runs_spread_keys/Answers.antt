@@ -1,6 +1,6 @@
 use Rattle.group_progress.proofs.Starting.{reached}
 use Rattle.group_progress.proofs.Told.{all_read}
-use Rattle.group_progress.proofs.laws.fair.fair_runs_catch_up.Goals as goal
+use Rattle.group_progress.proofs.laws.fair.fair_runs_spread_keys.Goals as goal
 
 pub returns : goal.returns
 returns c = λ p group list w members leader b run j n m q size session leads most led fair node own is_up.

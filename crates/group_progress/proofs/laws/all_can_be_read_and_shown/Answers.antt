@@ -5,7 +5,7 @@ use Rattle.group_progress.proofs.Going.{then_at}
 use Rattle.group_progress.proofs.ShowingAll.{show_all}
 use Rattle.group_progress.proofs.Starting.{reached}
 use Rattle.group_progress.proofs.Within.{leads_then}
-use Rattle.group_progress.proofs.laws.all_is_read_and_shown.Goals as goal
+use Rattle.group_progress.proofs.laws.all_can_be_read_and_shown.Goals as goal
 
 pub returns : goal.returns
 returns c = λ p group list w members steps size session leads most left low.
