@@ -35,7 +35,8 @@ class Screen:
     def await_shown(self, *patterns, pane=0):
         """Waits until all of these are on the screen at once."""
         def is_shown():
-            return all(re.search(it, self.shown(pane), re.M) for it in patterns)
+            shown = self.shown(pane)
+            return all(re.search(it, shown, re.M) for it in patterns)
 
         try:
             await_that(is_shown, f"the screen shows {patterns}")

@@ -70,20 +70,18 @@ class Supervised(Running):
 
     def is_up(self):
         """Whether the node can be typed at. Before it is started its supervisor tries whether the
-        ports are free, and has them for a moment."""
-        return self.is_bound() and self.node() is not None
+        ports are free, and has them for a moment: once there is the node, they are its own."""
+        return self.node() is not None and self.is_bound()
 
     def is_down(self):
         return dropped_at(self.nodes[self.number - 1][1]) is None and not self.is_bound()
 
     def node(self):
-        """Returns the node's process, or None. A supervisor that renews has another one too, which
-        has the words of the supervisor at first."""
+        """Returns the node's process, or None. Its supervisor has other children too, as itself
+        before it becomes the node, and may be a child of what leads it into a namespace."""
         found = children_of(self.process.pid) if self.process else []
-        if len(found) > 1:
-            words = {it: words_of_process(it) for it in [*found, self.process.pid]}
-            own = words.pop(self.process.pid)
-            found = [it for it in found if "--freeze" not in words[it] and words[it] != own]
+        found += [it for child in found for it in children_of(child)]
+        found = [it for it in found if words_of_process(it)[1:2] == ["node"]]
         if len(found) > 1:
             raise Broken(f"the supervisor of node {self.number} has {len(found)} nodes")
         return found[0] if found else None

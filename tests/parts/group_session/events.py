@@ -1,7 +1,9 @@
 """What a session says and does at single events, with nodes that the test makes."""
 
 import contextlib
+import os
 import struct
+from unittest import mock
 
 from ..checks import expect, passed
 from .made import Made, Play, cut
@@ -73,6 +75,26 @@ def check_consoles(folder):
         play.await_said("the console of node 2 is another one. Keys that you type wait here")
         play.type(b"x")
         expect("nothing is typed there", play.heard()[1] == b"", play.heard())
+
+
+def check_removed(folder):
+    """A console goes away while the session looks whether it can go on there."""
+    with played(folder, has_record=False, count=2) as play:
+        one, two = play.nodes
+        agrees = play.session.agrees
+
+        def agrees_and_goes(seat):
+            found = agrees(seat)
+            os.rename(two.console, two.console + ".gone")
+            return found
+
+        with mock.patch.object(play.session, "agrees", agrees_and_goes):
+            one.close()
+            play.type(b"x")
+        play.await_said("console of node 2 is not known or cannot be read")
+        os.rename(two.console + ".gone", two.console)
+        play.await_said("The keys that waited are typed now: the session continues at node 2")
+    passed("a console that goes away while it is looked at")
 
 
 def check_not_kept(folder):
@@ -281,7 +303,7 @@ def check_full(folder):
 
 
 CHECKS = (
-    check_refused, check_heard, check_nobody, check_consoles, check_not_kept, check_cut, check_long,
-    check_lost, check_late, check_came, check_kept, check_starts, check_renewed, check_others,
-    check_window,
+    check_refused, check_heard, check_nobody, check_consoles, check_removed, check_not_kept,
+    check_cut, check_long, check_lost, check_late, check_came, check_kept, check_starts,
+    check_renewed, check_others, check_window,
 )

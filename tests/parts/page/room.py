@@ -2,7 +2,6 @@
 
 import os
 import signal
-import threading
 
 from ..files import bytes_of
 from ..group import await_that
@@ -10,26 +9,11 @@ from ..supervised import group_of
 from .visitor import Page, Visitor
 
 
-# The addresses of the groups of this process: some start at one time, and nobody has bound them.
-TAKEN, CHOOSING = set(), threading.Lock()
-
-
-def group_apart(size, folder, silent):
-    """A group with addresses that no other one of this process has."""
-    with CHOOSING:
-        while True:
-            group = group_of(size, folder, silent=silent)
-            own = {*group[0].nodes, *group[0].beats, *(it.keys for it in group)}
-            if not own & TAKEN:
-                TAKEN.update(own)
-                return group
-
-
 class Room:
     """A group under supervisors, and a page of it."""
 
     def __init__(self, folder, *words, silent=3600, size=3):
-        self.group, self.visitors, self.page = group_apart(size, folder, silent), [], None
+        self.group, self.visitors, self.page = group_of(size, folder, silent), [], None
         try:
             for it in self.group:
                 it.begin("--new")

@@ -7,9 +7,12 @@ import os
 import signal
 import subprocess
 import tempfile
+from unittest import mock
 
 from shared.frozen import frozen_at
 from shared.record import read_record
+from shared.renewing import freezing
+from shared.synced import Note, text_of_note
 from shared.words import text_of_address
 
 from ..checks import expect
@@ -244,6 +247,24 @@ def check_each_freeze_kill(folder):
         kill_each(folder, 1)
 
 
+def check_freeze_given_back(folder):
+    """While `renew --rehearse` looks at a console, its supervisor gives the first bytes back to the
+    disk, and the node goes on."""
+    wrote, first, kept = b"written " * 1000, 4096, freezing.first_kept
+    path = file_with(folder, "console", wrote + b"and more")
+
+    def give_back(path):
+        found = kept(path)
+        note = Note(len(wrote), "0-0", first)
+        file_with(folder, "console.synced", text_of_note(note))
+        file_with(folder, "console", bytes(first) + wrote[first:] + b"and more")
+        return found
+
+    with mock.patch.object(freezing, "first_kept", give_back):
+        lacking = freezing.Console(path, 0, wrote).lacking(True)
+    expect("freeze: what is given back meanwhile does not differ", lacking == b"", lacking)
+
+
 def check_freeze_running(folder):
     there, words = room(folder, "running")
     group = group_in(there)
@@ -392,6 +413,6 @@ def check_freeze_full(folder):
 
 FROZEN_CHECKS = (
     check_freeze_words, check_freeze_bytes, check_freeze_twice, check_freeze_refusals,
-    check_freeze_versions, check_freeze_kills, check_freeze_running, check_freeze_group,
-    check_freeze_supervised, check_freeze_full,
+    check_freeze_versions, check_freeze_kills, check_freeze_given_back, check_freeze_running,
+    check_freeze_group, check_freeze_supervised, check_freeze_full,
 )

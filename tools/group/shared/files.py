@@ -1,6 +1,7 @@
 """The files that a supervisor is given: what of them is refused at once, and the lines that say
 so. Other scripts refuse and tell faults in the same way."""
 
+import contextlib
 import errno
 import os
 import pwd
@@ -72,6 +73,13 @@ def name_of(user):
         return f"#{user}"
 
 
+def is_one_file(path, other):
+    """Whether two paths lead to one file. One that is not there, or goes just now, is no other."""
+    with contextlib.suppress(OSError):
+        return os.path.samefile(path, other)
+    return False
+
+
 def check_apart(words):
     """The console is a file of its own."""
     place = os.path.realpath(words.console)
@@ -82,8 +90,7 @@ def check_apart(words):
     if words.beats_key is not None:
         others.append((os.path.realpath(words.beats_key), "key of --beats-key"))
     for other, what in others:
-        is_same = os.path.exists(place) and os.path.exists(other) and os.path.samefile(place, other)
-        if place == other or is_same:
+        if place == other or is_one_file(place, other):
             raise Refused(f"--console {words.console} is the {what}, which would get the output")
 
 

@@ -1,6 +1,7 @@
 """The command line of a node, free addresses, and what the system says of UDP ports and processes.
 The scripts of `tools/group` share it with the tests and benches of groups."""
 
+import itertools
 import os
 import random
 import socket
@@ -9,6 +10,8 @@ from .words import text_of_address
 
 # The greatest number of turns: a node that is to run until it is ended.
 TURNS = 4294967295
+# What goes through a range of ports, by the text of the range.
+WALKS = {}
 
 
 def command_of(program, file, node, session, record, addresses, *more, turns=TURNS):
@@ -18,15 +21,24 @@ def command_of(program, file, node, session, record, addresses, *more, turns=TUR
     return [str(it) for it in [*words, *map(text_of_address, addresses), *more]]
 
 
+def walk_of(text):
+    """Returns what goes through a range of ports again and again, from a random one on. So none is
+    given twice by this process before all were: who has got one may not have bound it yet."""
+    if text not in WALKS:
+        first, last = map(int, text.split("-"))
+        begin = random.SystemRandom().randint(first, last)
+        WALKS.setdefault(text, itertools.cycle([*range(begin, last + 1), *range(first, begin)]))
+    return WALKS[text]
+
+
 def free_addresses(count):
     """Returns `count` loopback addresses whose ports nobody has bound. They are below the range
     from which the system gives ports to those that ask for any: a node that is started again finds
     its own still free. PGROUP_PORTS has the first port and the last, as `20000-25999`: scripts that
     run at the same time get ports of their own."""
-    first, last = map(int, os.environ.get("PGROUP_PORTS", "20000-31999").split("-"))
-    found = []
+    ports, found = walk_of(os.environ.get("PGROUP_PORTS", "20000-31999")), []
     while len(found) < count:
-        address = ("127.0.0.1", random.SystemRandom().randint(first, last))
+        address = ("127.0.0.1", next(ports))
         with socket.socket(socket.AF_INET, socket.SOCK_DGRAM) as probe:
             try:
                 probe.bind(address)

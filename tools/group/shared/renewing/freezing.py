@@ -72,9 +72,12 @@ class Console:
                           "are files, and copy one of them for a node that has none")
         with open(self.path, "rb") as file:
             length = os.fstat(file.fileno()).st_size
-            begin = max(self.base, first_kept(self.path))
-            file.seek(begin)
+            before = max(self.base, first_kept(self.path))
+            file.seek(before)
             has = file.read()
+        # A supervisor may have given more of it back meanwhile, and has noted that first.
+        begin = max(before, first_kept(self.path))
+        has = has[begin - before:]
         if length < self.base:
             raise Refused(f"{self.path} has {length} bytes, and {self.base} were written before "
                           "the program was frozen: put a copy of another node's console there")

@@ -174,7 +174,8 @@ class Session:
         """Whether the session can go on at a node: 2 where its console has all that was shown, 1
         where it agrees as far as it goes, None where it cannot."""
         seat, shown, record = self.seats[at], self.shown or 0, self.seats[at].record()
-        if not seat.is_up() or seat.keys is None or seat.size() is None:
+        size = seat.size()
+        if not seat.is_up() or seat.keys is None or size is None:
             return None
         if seat.was_refused(AGAIN) or not seat.has_port():
             return None
@@ -182,7 +183,7 @@ class Session:
             return None
         if not self.agrees(seat):
             return None
-        return 2 if seat.size() >= shown else 1
+        return 2 if size >= shown else 1
 
     def differing(self):
         """The nodes whose consoles contradict what was shown."""

@@ -40,6 +40,8 @@ QUIET, PATIENCE, AGAIN, LATER, LONG = 1.0, 20.0, 5.0, 600.0, 60.0
 # The least bytes that have to be free where files are written.
 ROOM = 1 << 20
 RENEWS = re.compile(rb"renews (\d{1,5}) ([0-9a-f-]{1,64})")
+# What `renew` says where a node still runs.
+RUNS = re.compile(r" runs, process \d+: | runs at the record .* already")
 
 # What another supervisor has told: when, and in which boot of its machine.
 Told = collections.namedtuple("Told", "at boot")
@@ -56,14 +58,20 @@ def follow(words):
     renewed just now."""
     if words.renew_at is None:
         return False
-    is_over = lambda session: plans.plan_at(words.record, session) is None
+    found = []
+
+    def is_over(session):
+        found.append(plans.plan_at(words.record, session))
+        return found[-1] is None
+
     *before, (session, file) = sessions_after(words.record, words.session, words.file, is_over)
     if before:
         say(words, f"continues in session {session}, with {file}: session {words.session} was "
             "renewed")
         words.earlier += [it for it, _ in before]
         words.session, words.file, words.generation, words.new = session, file, 1, False
-    return not is_over(session)
+    # A plan that was found may be over by now, and then another session continues this one.
+    return found[-1] is not None
 
 
 def nodes_here(words):
@@ -302,6 +310,8 @@ class Renewing:
         if plans.is_begun(plan):
             self.tell_late(plan, why, now)
             return
+        if RUNS.search(why) and now - self.since <= PATIENCE:
+            return  # Its supervisor has started it before it saw the plan, and ends it now.
         plans.take_back(plan)
         plans.end(plan)
         self.words.renew_due = now + LATER
