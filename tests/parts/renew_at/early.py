@@ -1,5 +1,5 @@
-"""Runs tools/group/supervise in this process. The supervisor of node 1 calls `renew` while nodes run,
-as where a node is started just before its supervisor sees the plan: until `renew` has refused
+"""Runs tools/group/supervise in this process. The supervisor of node 1 calls `renew` while nodes
+run, as where a node is started just before its supervisor sees the plan. Until `renew` has refused
 that, which the file FLAG says then, it finds no node there, and the others see no plan.
 
     python3 -B early.py FLAG SUPERVISE WORDS.."""
