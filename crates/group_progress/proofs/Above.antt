@@ -21,7 +21,7 @@ use Rattle.paxos_learner.specs.Learner.{Learner, front_of}
 use Rattle.paxos_proposer.specs.Proposer.{Proposer, coverage_of, is_covered_by, is_kept_from, next_of, proposed_at}
 use Rattle.group_protocol.specs.Known.{Known}
 use Rattle.group_world.specs.Group.{World, world_state}
-use Rattle.group_progress.specs.Below.{Laws}
+use Rattle.group_progress.specs.Below.{LeadLaws}
 use Rattle.group_progress.proofs.Going.{by_rules}
 use Rattle.group_progress.proofs.Steps.{Has}
 use Rattle.group_progress.proofs.Common.{Common, IsOf, Setting, grown, none_greater}
@@ -45,7 +45,7 @@ none_best members reported (Some vote) e best i own = absurd cc
 abbrev pub Covers : Setting → Proposer → Type 0
 Covers x p = (i : ℕ) → IsOf x i → coverage_of p i ≡ PLACES
 
-module _ (laws : Laws) (x : Setting) (most : IsMajority x.group.size x.members) {w : World} (c : Common x w) where
+module _ (laws : LeadLaws) (x : Setting) (most : IsMajority x.group.size x.members) {w : World} (c : Common x w) where
   module _ {i : ℕ} {k : Known} (has : Has w i k) where
     pub chosen_at : (s : ℕ) (u : Value) → get k.learner.learned s ≡ Some u → IsChosen w.group.size (world_state w).sent s u
     chosen_at s u at = (by_rules c.good.holds (record { there = has.there; up = has.up })).learned.chosen s u at

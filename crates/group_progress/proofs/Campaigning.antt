@@ -23,7 +23,7 @@ use Rattle.group_protocol.specs.WaitingKeys.{waiting_keys}
 use Rattle.group_world.specs.Group.{World, member_at, seat_of_member, world_state}
 use Rattle.group_progress.specs.GoingOn.{HasRoundAbove, ReachesWithin, messages_of_batch, most_batches, ticks_of_batch}
 use Rattle.group_world.proofs.WorldAsGroup.{running}
-use Rattle.group_progress.specs.Below.{LearnLaws, MoreLaws}
+use Rattle.group_progress.specs.Below.{LearnLaws, BatchLaws}
 use Rattle.group_progress.proofs.Common.{IsOf, Setting, in_messages, old_or_new}
 use Rattle.group_progress.proofs.Covering.{AskNew, Cov, Pre, Ready, cover_all}
 use Rattle.group_progress.proofs.CountedKeys.{keys_to}
@@ -129,7 +129,7 @@ not_promised None b less h = h
 not_promised (Some p) b less (inl more) = omega (arith, less, more)
 not_promised (Some p) b less (inr (same, node)) = omega (arith, less, same)
 
-module _ (more : MoreLaws) (learn : LearnLaws) (members : ℕ → Bool) (n : ℕ) (group : Group) (keys : ℕ → List Key) (top gap : ℕ)
+module _ (more : BatchLaws) (learn : LearnLaws) (members : ℕ → Bool) (n : ℕ) (group : Group) (keys : ℕ → List Key) (top gap : ℕ)
     (most : IsMajority group.size members) where
   -- what a node knows that has read all keys of all that act
   pub record ReadAll (v : World) (j : ℕ) : Type 0 where

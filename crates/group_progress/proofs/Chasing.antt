@@ -16,7 +16,7 @@ use Rattle.group_protocol.specs.Backs.{IsLeadingBacked}
 use Rattle.group_world.specs.Group.{World, world_state}
 use Rattle.group_progress.specs.GoingOn.{ReachesWithin}
 use Rattle.group_world.proofs.WorldAsGroup.{running}
-use Rattle.group_progress.specs.Below.{Laws}
+use Rattle.group_progress.specs.Below.{LeadLaws}
 use Rattle.group_progress.proofs.Within.{stay, then, within}
 use Rattle.group_progress.proofs.Steps.{New, turn_more}
 use Rattle.group_progress.proofs.Common.{Common, IsOf, Setting}
@@ -35,7 +35,7 @@ proposed_in p s low high =
     let above = le-ltb s p.first low in
     (found.0, rw above found.1)
 
-module _ (laws : Laws) (x : Setting) (most : IsMajority x.group.size x.members) where
+module _ (laws : LeadLaws) (x : Setting) (most : IsMajority x.group.size x.members) where
   module _ {w : World} {p : Proposer} {l : Learner} {offered : List Key} (c : Common x w) (lead : Lead x w p l offered) where
     -- the messages back the proposer
     pub backed : IsProposerBacked (world_state w).sent x.leader p

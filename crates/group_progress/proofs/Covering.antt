@@ -27,7 +27,7 @@ use Rattle.group_protocol.specs.Steps.{messages_handed_out}
 use Rattle.group_world.specs.Group.{World, world_state}
 use Rattle.group_progress.specs.GoingOn.{ReachesWithin}
 use Rattle.group_world.proofs.WorldAsGroup.{running}
-use Rattle.group_progress.specs.Below.{TestLaws, Laws}
+use Rattle.group_progress.specs.Below.{TestLaws, LeadLaws}
 use Rattle.group_progress.proofs.Acceptors.{promises}
 use Rattle.group_progress.proofs.Common.{IsOf, Setting, in_messages, old_or_new, one_known}
 use Rattle.group_progress.proofs.Going.{Good}
@@ -192,7 +192,7 @@ pub record Cov (x : Setting) (top : ℕ) (w : World) (p : Proposer) (l : Learner
 abbrev pub AskNew : Setting → World → ℕ → Type 0
 AskNew x w from = New x.count (world_state w).sent (record { sender = x.leader; body = Prepare x.ballot from })
 
-module _ (laws : Laws) (x : Setting) (top : ℕ) (leader : IsOf x x.leader) (l : Learner) (offered : List Key) where
+module _ (laws : LeadLaws) (x : Setting) (top : ℕ) (leader : IsOf x x.leader) (l : Learner) (offered : List Key) where
   reach_of : {w : World} {p : Proposer} → Cov x top w p l offered → (i : ℕ) → coverage_of p i ≤ PLACES
   reach_of {w} {p} v i =
       let sound = running v.pre.good.holds.sound (record { there = v.lead.has.there; up = v.lead.has.up }) in

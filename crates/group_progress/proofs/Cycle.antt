@@ -13,7 +13,7 @@ use Rattle.group_protocol.specs.Known.{Known, front}
 use Rattle.group_protocol.specs.ProposerResponses.{is_known_key}
 use Rattle.group_protocol.specs.WaitingKeys.{batch_of, waiting_keys}
 use Rattle.group_world.specs.Group.{World}
-use Rattle.group_progress.specs.Below.{Laws, MoreLaws}
+use Rattle.group_progress.specs.Below.{LeadLaws, BatchLaws}
 use Rattle.group_progress.proofs.Unread.{IsFirstUnread, IsUnreadAt}
 use Rattle.group_world.proofs.WorldAsGroup.{running}
 use Rattle.group_progress.proofs.Above.{Covers, front_within, none_above}
@@ -24,7 +24,7 @@ use Rattle.group_progress.proofs.Steps.{Has}
 use Rattle.group_progress.proofs.Telling.{Ahead}
 
 -- the first keys that wait are a batch
-pub first_batch : (more : MoreLaws) (n : Known) (k : Key) (rest : List Key) → waiting_keys n ≡ k ∷ rest
+pub first_batch : (more : BatchLaws) (n : Known) (k : Key) (rest : List Key) → waiting_keys n ≡ k ∷ rest
     → (v : Value) × (batch_of n n.waiting ≡ Some v) × ((others : List Key) × (keys_of v ≡ k ∷ others))
 first_batch more n k rest e = by (batch_of n n.waiting) refl where
   by : (o : Option Value) → batch_of n n.waiting ≡ o
@@ -43,8 +43,8 @@ pub record Settled (x : Setting) (w : World) (p : Proposer) (l : Learner) (offer
   pub read : (key : Key) → Contains offered key → Contains (keys_in_order (front_values l.learned)) key
   pub ahead : (i : ℕ) → IsOf x i → Ahead (front_of l.learned) w i
 
-module _ (more : MoreLaws) (x : Setting) (most : IsMajority x.group.size x.members) (leader : IsOf x x.leader) where
-  abbrev pub laws : Laws
+module _ (more : BatchLaws) (x : Setting) (most : IsMajority x.group.size x.members) (leader : IsOf x x.leader) where
+  abbrev pub laws : LeadLaws
   laws = more.laws
 
   -- the first waiting key of a node is not read there

@@ -23,7 +23,7 @@ use Rattle.group_protocol.specs.Protocol.{on_message}
 use Rattle.group_protocol.specs.Tick.{asks, submits}
 use Rattle.group_protocol.specs.WaitingKeys.{waiting_keys}
 use Rattle.group_world.specs.Group.{World, world_state}
-use Rattle.group_progress.specs.Below.{LearnLaws, MoreLaws}
+use Rattle.group_progress.specs.Below.{LearnLaws, BatchLaws}
 use Rattle.group_progress.proofs.Unread.{IsFirstUnread}
 use Rattle.group_progress.specs.GoingOn.{ReachesWithin, messages_of_batch, most_batches, ticks_of_batch}
 use Rattle.group_progress.proofs.Above.{front_within, learned_is}
@@ -67,7 +67,7 @@ batches_grow k a b less = omega arith
 next_up : (p : Proposer) (v : Value) → next_of (proposing p (Some v)) ≡ next_of p + 1
 next_up p v = omega (arith, length_push p.values v)
 
-module _ (more : MoreLaws) (learn : LearnLaws) (x : Setting) (most : IsMajority x.group.size x.members) (leader : IsOf x x.leader) where
+module _ (more : BatchLaws) (learn : LearnLaws) (x : Setting) (most : IsMajority x.group.size x.members) (leader : IsOf x x.leader) where
   module _ {p : Proposer} {l : Learner} {offered : List Key} where
     -- one batch of node `i`
     submit_once : (i : ℕ) → IsOf x i → (w : World) → Settled x w p l offered → (g : Follows x w i) → (k : Key) (rest : List Key)

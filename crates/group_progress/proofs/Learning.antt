@@ -27,7 +27,7 @@ use Rattle.group_node.specs.NodeCalls.{Running}
 use Rattle.group_world.specs.Group.{World, world_state}
 use Rattle.group_progress.specs.GoingOn.{ReachesWithin}
 use Rattle.group_world.proofs.WorldAsGroup.{running}
-use Rattle.group_progress.specs.Below.{TestLaws, Laws}
+use Rattle.group_progress.specs.Below.{TestLaws, LeadLaws}
 use Rattle.group_progress.proofs.Within.{stay, then, within}
 use Rattle.group_progress.proofs.Acceptors.{Votes, votes_for}
 use Rattle.group_progress.proofs.Going.{Good}
@@ -90,7 +90,7 @@ one_ballot tests a b h g = (tests.same a b).0 (by h g) where
 in_from_place : {X : Type 0} (xs : List X) (s : ℕ) (x : X) → slice_get xs s ≡ Some x → Contains xs x
 in_from_place xs s x e = (s, slice_get_within xs s x e, get_or_from_slice_get xs s x x e)
 
-module _ (laws : Laws) (x : Setting) (most : IsMajority x.group.size x.members) where
+module _ (laws : LeadLaws) (x : Setting) (most : IsMajority x.group.size x.members) where
   -- a node that has promised the ballot votes for what was proposed under it
   vote_one : {w : World} {i : ℕ} (c : Common x w) (f : Follows x w i) (j s : ℕ) (u : Value) → IsSaid (world_state w).sent
       (Accept x.ballot s u)

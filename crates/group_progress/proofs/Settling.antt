@@ -16,7 +16,7 @@ use Rattle.group_protocol.specs.Tick.{on_tick, ticked}
 use Rattle.group_world.specs.Group.{World, world_state}
 use Rattle.group_progress.specs.GoingOn.{ReachesWithin}
 use Rattle.group_world.proofs.WorldAsGroup.{running}
-use Rattle.group_progress.specs.Below.{LearnLaws, MoreLaws}
+use Rattle.group_progress.specs.Below.{LearnLaws, BatchLaws}
 use Rattle.group_progress.proofs.Above.{Covers, front_within}
 use Rattle.group_progress.proofs.Chasing.{chase}
 use Rattle.group_progress.proofs.Common.{Common, Follows, IsOf, Setting, common_after, one_known}
@@ -36,7 +36,7 @@ tick_pumps : (n : Known) (o : Option Proposer) (p : Proposer) → o ≡ Some p �
 tick_pumps n None p e = absurd cc
 tick_pumps n (Some q) p e = let same : q ≡ p = cc e in ap (λ (r : Proposer). Some (pump MOST_PUMPED r).proposer) same
 
-module _ (more : MoreLaws) (learn : LearnLaws) (x : Setting) (most : IsMajority x.group.size x.members) (leader : IsOf x x.leader)
+module _ (more : BatchLaws) (learn : LearnLaws) (x : Setting) (most : IsMajority x.group.size x.members) (leader : IsOf x x.leader)
     (top : ℕ) (l : Learner) (offered : List Key) where
   common_of : {w : World} → (c : Covered more.laws x top leader l offered w) → Common x w
   common_of {w} c = record {

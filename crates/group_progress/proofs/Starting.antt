@@ -22,7 +22,7 @@ use Rattle.group_world.specs.Group.{IsUp, World, me_of, member_at, new_world, wo
 use Rattle.group_world.specs.Member.{Member}
 use Rattle.group_progress.specs.GoingOn.{AllHaveFinishedReading, HasLeft, HasRoundAbove, HaveLeft, HaveOpen, MayReachWithin, ReachesWithin, learned_to, most_messages, most_ticks, waiting_at, keys_waiting, waiting_of}
 use Rattle.group_protocol.specs.WaitingKeys.{waiting_keys}
-use Rattle.group_progress.specs.Below.{EventLaws, LearnLaws, MoreLaws}
+use Rattle.group_progress.specs.Below.{EventLaws, LearnLaws, BatchLaws}
 use Rattle.group_progress.proofs.Campaigning.{UpReady, read_all}
 use Rattle.group_progress.proofs.Chasing.{slice_some}
 use Rattle.group_progress.proofs.Within.{stay, then, within}
@@ -67,7 +67,7 @@ below_from : (top : ℕ) (votes : List Vote) → ((vote : Vote) → Contains vot
 below_from top [] all = tt
 below_from top (x ∷ xs) all = (all x (first_in x xs), below_from top xs (λ vote among. all vote (rest_in x xs vote among)))
 
-module _ (more : MoreLaws) (learn : LearnLaws) (members : ℕ → Bool) (w : World) (good : Good w) (left : HaveLeft members w) (gap : ℕ)
+module _ (more : BatchLaws) (learn : LearnLaws) (members : ℕ → Bool) (w : World) (good : Good w) (left : HaveLeft members w) (gap : ℕ)
     (few : HaveOpen gap left.top members w)
     (most : IsMajority w.group.size members) where
   abbrev count : ℕ

@@ -28,7 +28,7 @@ use Rattle.group_protocol.specs.Ranges.{IsOwnProposer}
 use Rattle.group_protocol.specs.Tick.{ticked}
 use Rattle.group_world.specs.Group.{World}
 use Rattle.group_world.proofs.WorldAsGroup.{running}
-use Rattle.group_progress.specs.Below.{Laws}
+use Rattle.group_progress.specs.Below.{LeadLaws}
 use Rattle.group_progress.proofs.Above.{Covers}
 use Rattle.group_progress.proofs.Common.{Common, Setting}
 use Rattle.group_progress.proofs.Learners.{count_within}
@@ -37,7 +37,7 @@ use Rattle.group_progress.proofs.Pumps.{offers, rests}
 
 -- ---- the majority
 
-module _ (laws : Laws) (x : Setting) (most : IsMajority x.group.size x.members) where
+module _ (laws : LeadLaws) (x : Setting) (most : IsMajority x.group.size x.members) where
   pub size_is : {w : World} {p : Proposer} {l : Learner} {offered : List Key} → Common x w → Lead x w p l offered → p.size ≡ x.group.size
   size_is {w} {p} c lead =
       let sound = running c.good.holds.sound (record { there = lead.has.there; up = lead.has.up }) in

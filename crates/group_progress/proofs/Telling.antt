@@ -24,7 +24,7 @@ use Rattle.paxos_proposer.specs.declared.proposer.TheConstants.{MOST_PUMPED}
 use Rattle.group_protocol.specs.declared.limits.TheConstants.{MOST_TOLD}
 use Rattle.group_world.specs.Group.{World}
 use Rattle.group_progress.specs.GoingOn.{ReachesWithin}
-use Rattle.group_progress.specs.Below.{Laws}
+use Rattle.group_progress.specs.Below.{LeadLaws}
 use Rattle.group_progress.proofs.Within.{stay, then, within}
 use Rattle.group_progress.proofs.KeysKept.{Shrinks, shrink_after, shrink_ticked}
 use Rattle.group_progress.proofs.Learners.{told}
@@ -86,7 +86,7 @@ some_at learned s is = by (get learned s) refl is where
   by None e is = absurd cc
   by (Some v) e is = (v, e)
 
-module _ (laws : Laws) (x : Setting) (most : IsMajority x.group.size x.members) (leader : IsOf x x.leader) (p : Proposer) (l : Learner)
+module _ (laws : LeadLaws) (x : Setting) (most : IsMajority x.group.size x.members) (leader : IsOf x x.leader) (p : Proposer) (l : Learner)
     (offered : List Key) where
   abbrev f : ℕ
   f = front_of l.learned

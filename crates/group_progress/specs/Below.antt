@@ -77,7 +77,8 @@ pub record TestLaws : Type 0 where
 
 -- ---- keys and what is learned
 
--- Keys that wait leave from the front, once they are read. What is learned only grows.
+-- Keys that wait leave from the front, once they are read. A message makes no node forget what it
+-- has learned.
 pub record KeyLaws : Type 0 where
   pub gone : (n : Known) → (gone : List Key)
       × (waiting_keys n ≡ gone ++ waiting_keys (without_read n))
@@ -111,8 +112,9 @@ pub record TellLaws : Type 0 where
   pub message : (n : Known) (j : ℕ) (body : Body)
       → HasLearnedMore n.learner.learned (on_message n j body).node.learner.learned
 
--- What reading rests on: the test of keys is exact; the values below a place up to the front are as
--- many, each at its index; and nodes have not learned different values.
+-- What reading rests on: the test of keys is exact; below a place that is not above the front there
+-- are as many values as places, each at its index; the front is the first place that is not
+-- learned; and nodes have not learned different values.
 pub record ReadLaws : Type 0 where
   pub same : (k other : Key) → (same_key k other ≡ true) ↔ (k ≡ other)
   pub many : (learned : FinMap nat_cmp Value) (n : ℕ) → n ≤ front_of learned
@@ -125,7 +127,7 @@ pub record ReadLaws : Type 0 where
 -- ---- one leading node
 
 -- What the lemmas of one leading node rest on.
-pub record Laws : Type 0 where
+pub record LeadLaws : Type 0 where
   pub events : EventLaws
   pub tests : TestLaws
   pub keys : KeyLaws
@@ -135,9 +137,9 @@ pub record Laws : Type 0 where
   pub learned_accepted : (l : Learner) (i s : ℕ) (b : Ballot) (v : Value)
       → HasLearnedMore l.learned (heard_accepted l i b s v).learner.learned
 
--- The same, with what the batches rest on that its followers submit.
-pub record MoreLaws : Type 0 where
-  pub laws : Laws
+-- The same, with what the batches rest on that the other nodes submit.
+pub record BatchLaws : Type 0 where
+  pub laws : LeadLaws
   pub reads : ReadLaws
   pub has : (keys : List Key) (k : Key) → IsTrue (has_key keys k) → Contains keys k
   pub stands : (n : Known) (k : Key) → IsTrue (is_learned n.learner.learned k)
@@ -148,7 +150,7 @@ pub record MoreLaws : Type 0 where
 
 -- The same, with what endless runs need.
 pub record FairLaws : Type 0 where
-  pub more : MoreLaws
+  pub more : BatchLaws
   pub few : (learned : FinMap nat_cmp Value) → AreInWindow learned → front_of learned ≤ PLACES
   pub wait : WaitLaws
 

@@ -34,7 +34,7 @@ use Rattle.group_progress.specs.GoingOn.{AllHaveRead, ShowsBytes, keys_waiting}
 
 -- Events without end, one after another: the event at each moment, its answer, and the world before
 -- it. The world at moment 0 is the first one.
--- Allows: any events at all.
+-- Allows: any events that can happen, refused ones and failed saves too.
 pub record Endless (first : World) : Type 0 where
   pub event : ℕ → Event
   pub done : ℕ → Done

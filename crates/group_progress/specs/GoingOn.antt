@@ -39,8 +39,8 @@ pub record IsOwnEvent (members : ℕ → Bool) (sent : ℕ) (e : Event) : Type 0
   pub kept : e.save ≡ Kept
   pub helpful : IsHelpful sent e.act
 
--- Events of these nodes alone that lead from a world to one with this property, after so many
--- messages were sent.
+-- Events of these nodes alone that lead from a world to one with this property. They hear none of
+-- the first `sent` messages.
 pub record Reaches (members : ℕ → Bool) (sent : ℕ) (w : World) (P : World → Type 0) : Type 0 where
   pub events : List Event
   pub end : World
@@ -70,7 +70,7 @@ ticks_by _ = 1
 abbrev pub messages_heard : List Event → ℕ
 messages_heard events = sum_by (λ e. messages_by e.act) events
 
--- How many of these events hear no message: ticks, starts, campaigns, runs and releases.
+-- How many of these events are no delivery, such as ticks, starts, campaigns, runs and releases.
 abbrev pub ticks_in : List Event → ℕ
 ticks_in events = sum_by (λ e. ticks_by e.act) events
 
@@ -213,7 +213,8 @@ abbrev pub AllHaveFinishedReading : (ℕ → Bool) → ℕ → List Key → Worl
 AllHaveFinishedReading members size keys w =
     (i : ℕ) → IsNode size i → IsTrue (members i) → HasFinishedReading keys w i
 
--- Node `i` is up, and fewer than 256 keys wait there: it refuses no typed byte as `Busy`.
+-- Node `i` is up, and refuses no typed byte as `Busy`. In a world that is reached, fewer than 256
+-- keys wait there.
 -- Allows: a byte that is refused because no serial is left.
 pub record TakesKeys (w : World) (i : ℕ) : Type 0 where
   pub node : Member

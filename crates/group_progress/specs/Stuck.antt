@@ -59,10 +59,10 @@ pub record HearsOldPrepare (leader : ℕ) (b : Ballot) (w : World) (run : Endles
   pub above : IsBelow b ballot
   pub heard : run.event 1 ≡ kept_event (Deliver number leader)
 
--- A run that is led as `IsLed` says, but for one thing: the leading node hears an old Prepare.
--- From moment 1 on nodes of the majority neither crash nor campaign, and their saves are kept.
--- Allows: what follows from the old Prepare, as that others hear it too, and Refuseds that answer
--- the ballot.
+-- A run that is led as `IsLed` says, but for what nodes of the majority hear: at moment 1 the
+-- leading node hears an old Prepare above its ballot, and any other message may be heard. From
+-- moment 1 on nodes of the majority neither crash nor campaign, and their saves are kept.
+-- Allows: another message that outranks the ballot, old or new.
 pub record IsLedOpenly (members : ℕ → Bool) (leader : ℕ) (b : Ballot) (w : World)
     (run : Endless w) : Type 0 where
   pub node : IsNode w.group.size leader
@@ -91,7 +91,7 @@ pub record HearsAndTicks (members : ℕ → Bool) (w : World) (run : Endless w) 
   pub fair : IsFair members run
   pub hears : HearsAll members w run
 
--- A run from a world that is reached, of which these two hold. A key waits at a node of the
+-- A run from a world that is reached, of which `Led` and `Hears` hold. A key waits at a node of the
 -- majority before it, and no node of the majority ever reads that key.
 -- Forbids: a key that some node of the majority reads, even late.
 pub record HasStuckRun (Led : (ℕ → Bool) → ℕ → Ballot → (w : World) → Endless w → Type 0)

@@ -31,16 +31,17 @@ use below::what_lies_below;
 pub use fair::{
     fair_runs_get_a_leader, fair_runs_go_on, fair_runs_learn, fair_runs_need_peace,
     fair_runs_need_submits, fair_runs_need_ticks, fair_runs_promise, fair_runs_propose,
-    fair_runs_read, fair_runs_show, fair_runs_spread_keys, some_run_is_fair,
+    fair_runs_read, fair_runs_spread_keys, led_runs_show, some_run_is_fair,
 };
 use group_world::laws::{events_are_processes, processes_are_events};
 
-/// All that waits can be read within so many ticks and messages. From each world that is reached,
+/// All that waits can be read within so many events. From each world that is reached,
 /// some events of the nodes of a majority, at most so many, lead to one in which each of them is up
 /// and has read each key that waited at one of them, and no key waits there any more.
 ///
-/// All votes of the majority are below `left.top`, and each of its nodes has learned all but `k`
-/// places below it, or more. The numbers are linear in `k` and in the batches of the keys.
+/// All votes of the majority are below `left.top`, and the known front of each of its nodes (0 if
+/// the node is down) is at most `k` places below that. The numbers are linear in `k` and in the
+/// batches of the keys.
 pub fn all_can_be_read_within()
     ensures { (p : Parts) (group : Group) (events : List Event) (w : World) (members : ℕ → Bool)
         (k : ℕ) → IsSize group.size → IsGroup group → LeadsBy (new_world p group) events w
@@ -67,10 +68,10 @@ pub fn no_world_is_stuck()
     all_can_be_read_within();
 }
 
-/// A key that is typed now at a node of the majority can be read by each of its nodes, by events of
-/// theirs alone, and then no key waits there. Fewer than 256 keys have to wait at the node before,
-/// and a serial has to be left there; and starts, rounds, and places for the key and for all that
-/// wait (`HaveLeftFor`).
+/// A node of the majority that is up takes a byte that is typed now, if fewer than 256 keys wait
+/// there and a serial is left. Events of the majority's nodes then lead to a world in which each of
+/// them has read this key, and no key waits there. Starts, rounds, and places for the key and for
+/// all that wait have to be left (`HaveLeftFor`).
 pub fn a_typed_key_can_be_read()
     ensures { (p : Parts) (group : Group) (events : List Event) (w : World) (members : ℕ → Bool)
         (i byte : ℕ) (m : Member) (q : Running) → IsSize group.size → IsGroup group
@@ -125,13 +126,10 @@ pub fn all_can_be_read_and_shown()
     what_lies_below();
 }
 
-/// No group of processes is stuck. Whatever its processes have done, and whatever is lost of what
-/// is on its way, further deeds of the processes of each majority, unless their numbers are spent,
-/// lead to a group of which this holds.
-///
-/// Each of these nodes is up and has read each key that waited at one of them, no key waits there,
-/// and its console begins with what the program writes on all that it has read, in any number of
-/// steps below 2^64.
+/// No group of processes is stuck. Whatever they have done, and whatever is lost, deeds of the
+/// processes of each majority, unless their numbers are spent, lead to a group in which each of
+/// them is up and has read all keys that waited at them, no key waits there, and its console begins
+/// with what the program writes on what it has read, in any number of steps below 2^64.
 pub fn no_group_is_stuck()
     ensures { (p : Parts) (group : Group) (log : List Entry) (now : List Member)
         (members : ℕ → Bool) (steps : ℕ) → IsSize group.size → IsGroup group

@@ -73,8 +73,8 @@ HasCampaignedAsAsked kind old new from to (Ok (CampaignRefused f)) =
 HasCampaignedAsAsked kind old new from to (Err e) =
     (¬ LeadsAboveItsVotes old.protocol.known) × FailsAt kind old new from to (Campaign ∷ []) e
 
--- What a node did with what its keyboard had once it was looked at: it typed these bytes; or it
--- campaigned, could not, or leads already, as the answer says.
+-- What a node did with what its keyboard had once it was looked at: it typed some bytes that the
+-- keyboard gave; or it campaigned, could not, or leads already, as the answer says.
 abbrev pub AnswersSeen : {S : Type 0} → StoreKind S → Answered → NodeState S → NodeState S
     → Option Traffic → Option Traffic → KeyboardState → KeyboardState → Type 0
 AnswersSeen kind Bytes old new from to seen left =
@@ -94,8 +94,9 @@ retries_after (CampaignRefused f) retries = 0
 
 -- A keyboard that is looked at once, and then answered by what it has: by a request, if one is
 -- there, or else by all bytes for which the node has room.
--- Forbids: a keyboard at which nobody looks; a request that is passed over; a byte that is given
--- while a request is there; if none is there, a byte that is left though there is room.
+-- Forbids: a keyboard that counts looks, and at which nobody looks; a request that is passed over;
+-- a byte that is given while a request is there; if none is there, a byte that is left though there
+-- is room.
 pub record AnswersWhatCame {S : Type 0} (kind : StoreKind S) (answer : Answered)
     (old new : NodeState S) (from to : Surroundings) : Type 0 where
   pub seen : KeyboardState
@@ -106,8 +107,10 @@ pub record AnswersWhatCame {S : Type 0} (kind : StoreKind S) (answer : Answered)
   pub again : to.retries ≡ retries_after answer from.retries
 
 -- What happens at a keyboard before a turn: typing of what it gave, or a campaign that it asked
--- for, as the answer says. At `Ok` this says less than `AnswersWhatCame`.
--- Allows: at `Ok`, a request that is passed over; a byte that is left though there is room.
+-- for, as the answer says. At `Ok` this says less than `AnswersWhatCame`. At `Err` it says only why
+-- it was refused and what prompts there may have been (`HasEnded`).
+-- Allows: at `Ok`, a request that is passed over; a byte that is left though there is room. At
+-- `Err`, no look.
 abbrev pub HasAnsweredKeyboard : {S : Type 0} → StoreKind S → NodeState S → NodeState S
     → Surroundings → Surroundings → Result Answered GroupFault → Type 0
 HasAnsweredKeyboard kind old new from to (Ok Bytes) =

@@ -77,8 +77,8 @@ pub record FailsAt {S : Type 0} (kind : StoreKind S) (old new : NodeState S)
   pub store : e ≡ group.Node Store
   pub fails : Fails kind old new from to failing
 
--- A rest, or a part of one: what the node heard. It is refused only because a save fails at a
--- message.
+-- A rest, or a part of one: deeds without a prompt (`HearsOnce` has each receive). It is refused
+-- only because a save fails at a message.
 abbrev pub HasRested : {S T : Type 0} → StoreKind S → NodeState S → NodeState S → Option Traffic
     → Option Traffic → Result T GroupFault → Type 0
 HasRested kind old new from to (Ok x) = HasActed old new from to []

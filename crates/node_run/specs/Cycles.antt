@@ -64,8 +64,8 @@ HearsAtRest {S} {T} kind old new from to (Err e) =
     × HearsTimes kind times old mid from via × HasActed old mid from via []
     × HearsOnce {T = T} kind mid new via to (Err e) × FailsAt kind mid new via to [] e
 
--- A rest: the node hears what comes, which are deeds without a prompt. It may look at its keyboard,
--- to which something may come, and takes nothing from that.
+-- A rest: the node may receive, which are deeds without a prompt. It may look at its keyboard, to
+-- which something may come, and takes nothing from that.
 -- Allows: no receive, also if the node is not busy.
 pub record Rests {S : Type 0} (kind : StoreKind S) (a b : RunMoment S) : Type 0 where
   pub times : ℕ
@@ -81,8 +81,8 @@ pub record CampaignsAgain {S : Type 0} (kind : StoreKind S) (retried : Retried)
   pub did : HasRetried kind a.node b.node a.around b.around (Ok retried)
   pub unwritten : b.written ≡ a.written
 
--- The node looks at its keyboard once and answers it: it campaigns, or types all bytes for which it
--- has room.
+-- The node looks at its keyboard once and answers it. It answers a request: it campaigns, ignores
+-- it, or cannot. Without one it types all bytes for which it has room.
 pub record AnswersKeyboard {S : Type 0} (kind : StoreKind S) (answer : Answered)
     (a b : RunMoment S) : Type 0 where
   pub did : AnswersWhatCame kind answer a.node b.node a.around b.around
@@ -90,8 +90,7 @@ pub record AnswersKeyboard {S : Type 0} (kind : StoreKind S) (answer : Answered)
 
 -- A turn: the node hears, ticks if that is due and memory suffices, and runs its machine. Then its
 -- progress is that of a replay from the start on the learned input (`IsReplay`). The tick is not
--- due if a place was learned since the known front was at `begun` and the node has caught up.
--- Otherwise it is due.
+-- due if the known front is above `begun` and the node has caught up. Otherwise it is due.
 pub record TakesTurn {S : Type 0} (kind : StoreKind S) (begun : ℕ) (turned : Turned)
     (a b : RunMoment S) : Type 0 where
   pub did :
@@ -117,8 +116,8 @@ abbrev pub front_at : {S : Type 0} → RunMoment S → ℕ
 front_at a = front a.node.protocol.known
 
 -- A cycle up to its release: a rest, a campaign once more if one is due, the keyboard, and a turn.
--- The turn leaves its tick out if a place was learned since the cycle began and the node has caught
--- up. What was released before stays as it is.
+-- The turn leaves its tick out if the known front has risen since the cycle began and the node has
+-- caught up. Nothing is released.
 pub record IsCycleUpToRelease {S : Type 0} (kind : StoreKind S) (a b : RunMoment S) : Type 0 where
   pub rested : RunMoment S
   pub tried : RunMoment S
@@ -197,7 +196,7 @@ pub record EndsAtTurn {S : Type 0} (kind : StoreKind S) (a b : RunMoment S) (e :
   pub retries : b.around.retries ≡ answered.around.retries
   pub unwritten : b.written ≡ answered.written
 
--- A cycle that is refused before its release. What was released before stays as it is.
+-- A cycle that is refused before its release. Nothing is released.
 abbrev pub EndsBeforeRelease : {S : Type 0} → StoreKind S → RunMoment S → RunMoment S → GroupFault
     → Type 0
 EndsBeforeRelease kind a b e =

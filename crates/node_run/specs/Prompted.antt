@@ -18,8 +18,8 @@ turns_in prompts = length (filter is_run prompts)
 -- The prompts of a node in so many turns, at which its keyboard gave the prompts `gift`. What was
 -- typed is what the keyboard gave, each byte once and in order. If the serials were spent, the last
 -- bytes that it gave may be lost. Otherwise none is. `had` is how often the node might campaign
--- again before, and `left` how often it may now: its campaigns and `left` together are at most four
--- for each request, and `had`.
+-- again before, and `left` how often it may now: its campaigns plus `left` are at most four for
+-- each request plus `had`.
 -- Allows: a campaign that was asked for, and could not begin, or that a leader has ignored.
 -- Allows: a campaign before the request that counts for it.
 -- Forbids: a byte that is typed twice; if `had` is 0, more campaigns in all than four for each

@@ -17,7 +17,8 @@ use Rattle.node_run.specs.Course.{Surroundings, FailsAt}
 
 -- The node has no ballot. The greatest ballot that a Refused has reported to it is above the one
 -- that it has promised.
--- Forbids: a node that has promised the ballot that refused it, or a greater one.
+-- Allows: a node whose ballot ended when it promised a greater one.
+-- Forbids: a node that has promised the greatest ballot that was reported, or a greater one.
 abbrev pub IsBallotRefused : Known → Type 0
 IsBallotRefused n = (own_ballot n.proposer ≡ None) × (refusing promised : Ballot)
     × (n.remembered ≡ Some refusing) × (n.kept.promised ≡ Some promised)
@@ -27,13 +28,14 @@ IsBallotRefused n = (own_ballot n.proposer ≡ None) × (refusing promised : Bal
 abbrev pub IsRetryDue : ℕ → Known → Type 0
 IsRetryDue retries n = (0 < retries) × IsBallotRefused n
 
--- How often it may campaign again: not at all once it leads.
+-- How often it may campaign again: not at all if it leads now.
 abbrev pub retries_unless_leading : ℕ → Known → ℕ
 retries_unless_leading retries n = if is_leading n.proposer then 0 else retries
 
 -- A campaign once more for a request, if it is due, and its answer. Only a save that fails ends the
 -- node.
--- Forbids: a campaign of a node that leads, or whose ballot was not refused.
+-- Forbids: a campaign of a node that has a ballot, or to which no Refused has reported one above
+-- the promised one.
 abbrev pub HasRetried : {S : Type 0} → StoreKind S → NodeState S → NodeState S → Surroundings
     → Surroundings → Result Retried GroupFault → Type 0
 HasRetried kind old new from to (Ok NotDue) =

@@ -50,8 +50,8 @@ IsEarlyEnd plan e = IsWrittenCycleRefusal e ⊎ ((plan.campaigns ≡ true) × Is
 -- A run of a node that has started, as a process of its group over one load of its store, which is
 -- `end` after it. All that passes over its wire is what passes in its deeds. It campaigns first if
 -- its plan says so, or takes no turn because that campaign could not begin. Its other prompts are
--- as `IsPrompted` says. At `Ok` it has taken all turns of the plan, at `Err` at most those. After
--- all turns no output waits. It ends at its first failed save.
+-- as `IsPrompted` says. At `Ok` it has taken all turns of the plan, and no output waits; at `Err`
+-- it has taken at most those. It ends at its first failed save.
 -- Allows: turns at which nothing is heard.
 -- Forbids: output that waits at `Ok`.
 pub record RunsNode {S : Type 0} (kind : StoreKind S) (me : Me) (program : Parts) (store end : S)
@@ -77,13 +77,14 @@ pub record RunsNode {S : Type 0} (kind : StoreKind S) (me : Me) (program : Parts
   pub none_waits : OnOk result (unreleased_by last ≡ [])
 
 -- A run of a node as its cycles: from the node that one load of the store gave to the one that
--- leaves the store `end`. It says what the node did in which order. In each cycle it rests,
--- campaigns again if that is due, looks at its keyboard and answers it, takes its turn (it hears,
--- ticks if that is due, and runs its machine), and releases its output. In the end its machine is
--- where a replay is. If the store is honest and no save has failed, a restart may load from `end`
--- only the node's record. That it is a process then is a law (`cycles_are_a_run`).
--- Forbids: a cycle without its turn, its release, or its look at the keyboard, but for the one that
--- is refused.
+-- leaves the store `end`. It says what the node did in which order. It campaigns first if its plan
+-- says so. In each cycle it rests, campaigns again if that is due, looks at its keyboard and
+-- answers it, takes its turn (it hears, ticks if that is due, and runs its machine), and releases
+-- its output. In the end its machine is where a replay is. If the store is honest and no save has
+-- failed, a restart may load from `end` only the node's record. By the law `cycles_are_a_run` it is
+-- a run of a process.
+-- Forbids: a cycle without its turn, its release, or a look at a keyboard that counts looks, but
+-- for the one that is refused.
 pub record RunsInCycles {S : Type 0} (kind : StoreKind S) (me : Me) (program : Parts)
     (store end : S) (plan : RunPlan) (from to : Surroundings) (before after : Option (List ℕ))
     (result : Result (Unit {0}) GroupFault) : Type 0 where

@@ -24,7 +24,7 @@ use paxos_acceptor::Store;
 use std::io::Write;
 use std::time::Clock;
 
-/// How a node is to run, over whatever store, wire and keyboard. Each turn is one of a cycle.
+/// How a node is to run, over whatever store, wire and keyboard. Each cycle has one turn.
 #[derive(Clone, Copy, Debug, PartialEq, Eq)]
 pub struct RunPlan {
     /// How many turns it takes.
@@ -81,8 +81,8 @@ fn note_retried<H: Clock, S: Store, E: Write>(
 }
 
 /// Rests, unless the node is busy; campaigns again, if that is due; campaigns or types bytes, as
-/// the keyboard asks; and takes its turn. Returns true if the node is busy then. What was released
-/// before stays as it is.
+/// the keyboard asks; and takes its turn. Returns true if the node is busy then. Nothing is
+/// released.
 fn rest_and_turn<H: Clock, T: CountedWire, K: Keyboard, S: Store, E: Write>(
     host: &mut Host<'_, S>,
     endpoints: &mut Endpoints<T, K>,

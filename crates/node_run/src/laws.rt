@@ -22,8 +22,8 @@ use group_wire::laws::deeds_go_on;
 use paxos_acceptor::Store;
 use pcode_machine::laws::{output_only_grows, prefixes_are_ordered};
 
-/// What a start releases from number `--seen` on continues what earlier starts have written. With
-/// `--seen 0` it is the first bytes of the output. A later start gets the number of bytes that were
+/// What a start releases from number `seen` on continues what earlier starts have written. With 0
+/// for `seen` it is the first bytes of the output. A later start gets the number of bytes that were
 /// written (`console`). What it releases from there on, put behind them, is the first bytes of one
 /// output: as many as were written before, or as that start released, whichever is more.
 ///
@@ -61,10 +61,10 @@ pub fn cycles_are_a_run<S: Store>()
     deeds_go_on::<S>();
 }
 
-/// What is no part of a cycle. A keyboard that counts looks is not left without one. A closed
-/// keyboard does not stay as it is if it has a request, or bytes while the node has room for one.
-/// If the machine has more to do after a turn, and less than 2^64 - 1 steps before it, its progress
-/// has changed. Output that waits is not left at the end of a cycle.
+/// What is no part of a cycle. A keyboard that counts looks is not left without one. One as
+/// `closed_with` says does not stay as it is if it has a request, or bytes while the node has room
+/// for one. If the machine has more to do after a turn, and less than 2^64 - 1 steps before it, its
+/// progress has changed. If output waits, a release that succeeds changes the progress.
 pub fn wrong_cycles<S: Store>()
     ensures bytes_left { (answer : Answered) (a b : RunMoment S) (byte : ℕ) (bytes : List ℕ)
         → length a.node.protocol.known.waiting < MOST_WAITING

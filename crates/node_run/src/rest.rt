@@ -47,7 +47,7 @@ fn wait<T: RestingWire, K: Keyboard>(endpoints: &mut Endpoints<T, K>, waiting: u
     }
 }
 
-/// Returns true if the rest of a node is over once a place has become known. That is so if no key
+/// Returns true if the rest of a node is over once its known front has risen. That is so if no key
 /// waits, or as many as a place takes. If fewer wait, the rest lasts as long as the wire says: a
 /// turn after each learned place would propose one more place for the few keys that came
 /// meanwhile, and repeat all that is under way. On a quick network such a rest is over at once.
@@ -87,7 +87,7 @@ fn rest_once<T: RestingWire, K: Keyboard, S: Store>(
 }
 
 /// Hears what comes to a node that has nothing to do, until the rest has taken its time, the
-/// keyboard calls, a place has become known and `ends_rest` returns true, or 65,536 receives were
+/// keyboard calls, the known front has risen and `ends_rest` returns true, or 65,536 receives were
 /// made. What a message asks for is done when it is heard, so it needs no tick; and a tick after
 /// each would make the other nodes tick in turn, without end.
 fn rest<T: RestingWire, K: Keyboard, S: Store>(
@@ -144,8 +144,8 @@ pub fn rest_unless_busy<T: RestingWire, K: Keyboard, S: Store>(
     rest(host, endpoints)
 }
 
-/// Returns true if a node is busy after such a run: its machine has not ended, and does not wait
-/// for a key.
+/// Returns true if a node is busy after a run of its machine that stopped so: the machine has not
+/// ended, and does not wait for a key.
 pub fn is_busy_after(ran: Ran) -> bool {
     match ran {
         Ran::More | Ran::Full => true,

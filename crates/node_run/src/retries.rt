@@ -33,11 +33,11 @@ fn is_ballot_refused<S: Store>(node: &Node<'_, S>) -> bool
     }
 }
 
-/// Campaigns once more, under a ballot above the one that refused it, if the node was asked to
-/// campaign and its ballot was refused. It does so as often as `endpoints.retries` says, which is 3
-/// after a request: no more once it leads, and not while it has promised a ballot that is not below
-/// the one that refused it. A campaign that does not begin ends that, and the node continues as it
-/// was.
+/// Campaigns once more, above the greatest ballot that a Refused has reported to the node, if it
+/// was asked to campaign and has no ballot any more. It does so as often as `endpoints.retries`
+/// says, which is 3 after a request: no more if it leads now, and not while it has promised a
+/// ballot that is not below the reported one. A campaign that does not begin ends that, and the
+/// node continues as it was.
 pub fn campaign_again<T: Wire, K: Keyboard, S: Store>(
     host: &mut Host<'_, S>,
     endpoints: &mut Endpoints<T, K>,

@@ -55,10 +55,10 @@ fn trace_end<T: Wire>(wire: &mut T, done: Result<(), GroupFault>) -> Result<(), 
 /// are lost: at least one, and at most 256. At `Ok` all output of the machine is released.
 ///
 /// A start that is refused ends it, and nothing passes, nothing is typed, and nothing is written.
-/// Otherwise it ends before its last turn only for one of these reasons:
+/// Otherwise it is refused only for one of these reasons:
 /// - a save or a write failed
 /// - the plan's campaign was refused
-/// - a byte was typed, and the serials are spent
+/// - the serials are spent
 ///
 /// Contracts see of `config` the node and its group. The store is one of that node, or of no node
 /// in particular, and is given back as such. The record that an honest store loaded is one that a

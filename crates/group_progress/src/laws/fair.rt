@@ -105,7 +105,7 @@ pub fn fair_runs_read()
 /// In each run that is led, one of its nodes that runs and releases again and again shows what its
 /// program writes on what it has read, in any number of steps below 2^64. Neither a majority nor a
 /// fair network is needed.
-pub fn fair_runs_show()
+pub fn led_runs_show()
     ensures { (p : Parts) (group : Group) (events : List Event) (w : World) (members : ℕ → Bool)
         (leader : ℕ) (b : Ballot) (run : Endless w) (i n : ℕ)
         → IsSize group.size → IsGroup group → LeadsBy (new_world p group) events w
@@ -136,7 +136,8 @@ pub fn some_run_is_fair()
 }
 
 /// Fair runs need ticks: in some run that is led, all that the nodes of the majority send to each
-/// other is heard, and yet a key that waits is never read. In the proof's run nobody ticks.
+/// other is heard again and again, and yet none of them ever reads a key that waits. In the proof's
+/// run nobody ticks.
 pub fn fair_runs_need_ticks()
     ensures { (p : Parts) (group : Group) → IsSize group.size → IsGroup group
         → HasStuckRun IsLedCalmly HearsAll p group }
@@ -145,7 +146,7 @@ pub fn fair_runs_need_ticks()
 }
 
 /// Fair runs need Submits: in some run that is led, each node of the majority ticks again and again
-/// and hears all that one of them sends to it but Submits, and a key that waits is never read.
+/// and hears all that one of them sends to it but Submits, and none ever reads a key that waits.
 pub fn fair_runs_need_submits()
     ensures { (p : Parts) (group : Group) → IsSize group.size → IsGroup group
         → HasStuckRun IsLedCalmly HearsAllButSubmits p group }
@@ -153,9 +154,9 @@ pub fn fair_runs_need_submits()
     what_lies_below();
 }
 
-/// Fair runs need peace: some run of a group of three or more is fair, and led, but that the
-/// leading node hears an old Prepare above its ballot (`IsLedOpenly`), and a key that waits is
-/// never read.
+/// Fair runs need peace: some run of a group of three or more is fair, and led but for what is
+/// heard (`IsLedOpenly`): the leading node hears an old Prepare above its ballot. No node of the
+/// majority ever reads a key that waits.
 pub fn fair_runs_need_peace()
     ensures { (p : Parts) (group : Group) → IsSize group.size → IsGroup group → 1 < group.size
         → HasStuckRun IsLedOpenly HearsAndTicks p group }

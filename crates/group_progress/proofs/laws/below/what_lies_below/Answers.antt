@@ -1,6 +1,6 @@
 -- Each record of laws, of what the calls have left.
 use Rattle.std.proofs.Common.{arith}
-use Rattle.group_progress.specs.Below.{EventLaws, FairLaws, KeyLaws, Laws, LearnLaws, MoreLaws, PlayedLaws, ReadLaws, ShowLaws, TellLaws, TestLaws, UnreadLaws}
+use Rattle.group_progress.specs.Below.{EventLaws, FairLaws, KeyLaws, LeadLaws, LearnLaws, BatchLaws, PlayedLaws, ReadLaws, ShowLaws, TellLaws, TestLaws, UnreadLaws}
 use Rattle.group_progress.proofs.laws.below.what_lies_below.Goals as goal
 
 unread : goal.After-prefixes_are_ordered → UnreadLaws
@@ -24,10 +24,10 @@ reads c = grind arith
 learn : goal.After-prefixes_are_ordered → LearnLaws
 learn c = grind arith
 
-laws : goal.After-prefixes_are_ordered → Laws
+laws : goal.After-prefixes_are_ordered → LeadLaws
 laws c = grind (arith, events c, tests c, keys c, tell c)
 
-more : goal.After-prefixes_are_ordered → MoreLaws
+more : goal.After-prefixes_are_ordered → BatchLaws
 more c = record {
   laws = laws c;
   reads = reads c;

@@ -1,6 +1,6 @@
 use Rattle.group_progress.proofs.Played.{all_is_shown}
 use Rattle.group_progress.proofs.Starting.{reached}
-use Rattle.group_progress.proofs.laws.fair.fair_runs_show.Goals as goal
+use Rattle.group_progress.proofs.laws.fair.led_runs_show.Goals as goal
 
 pub returns : goal.returns
 returns c = λ p group list w members leader b run i n size session leads led own played.
