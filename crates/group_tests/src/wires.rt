@@ -3,7 +3,7 @@ ghost use Rattle.std.specs.Prelude.{◌≤◌, length};
 
 use crate::program::reading_program;
 use group_node::{Config, NodeFault};
-use group_wire::{Host, TraceEvent, Wire};
+use group_wire::{Host, Rested, TraceEvent, Wire};
 use paxos_acceptor::MemoryStore;
 use paxos_msg::Record;
 use pcode_ops::Program;
@@ -190,7 +190,7 @@ impl<'a> Player<'a> {
     }
 
     fn turn(&mut self, network: &mut Network) {
-        if self.host.turn(network, None).is_err() {
+        if self.host.turn(network, Rested::No).is_err() {
             self.is_wrong = true;
         }
     }

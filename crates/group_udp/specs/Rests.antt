@@ -33,6 +33,13 @@ took (Some since) None = 0
 took (Some since) (Some now) =
     min ((instant_nanos now - instant_nanos since) / 1_000_000) LONG_PAUSE
 
+-- Less than the longest pause has passed from one time to another, by whole milliseconds.
+-- Forbids: a time that is not known.
+abbrev pub IsLately : Option Instant → Option Instant → Type 0
+IsLately None now = ⊥
+IsLately (Some since) None = ⊥
+IsLately (Some since) (Some now) = took (Some since) (Some now) < LONG_PAUSE
+
 -- The time that is left until this end, by the time now.
 -- Forbids: time that is left of a rest whose end is not known.
 abbrev pub IsTimeLeft : Option Instant → Option Instant → Option Duration → Type 0
@@ -60,6 +67,7 @@ pub record BeginsRest (old : Rest) (now : Option Instant) (front : ℕ) (new : R
   pub from : new.front ≡ front
   pub unsent : new.has_sent ≡ false
   pub since : new.since ≡ (if old.has_sent then now else None)
+  pub ticked : new.ticked ≡ old.ticked
 
 -- The end of a rest that is to end so many milliseconds after `from` at the latest.
 -- Forbids: an end that is put off.

@@ -12,6 +12,7 @@
 //! a run ended early.
 #![tactic(auto)]
 
+mod drained;
 mod header;
 mod kinds;
 pub mod laws;

@@ -1,14 +1,14 @@
 //! A rest of a node between two turns: when it began, and until when it lasts.
-ghost use Rattle.std.specs.Prelude.{◌≡◌, false, None};
+ghost use Rattle.std.specs.Prelude.{◌≡◌, ◌↔◌, false, IsTrue, None};
 ghost use Rattle.group_udp.specs.Pace.{first_pace};
-ghost use Rattle.group_udp.specs.Rests.{BeginsRest, IsLater, IsTimeLeft, NotesLearned, NotesSent, earlier, time_to_learn, took};
+ghost use Rattle.group_udp.specs.Rests.{BeginsRest, IsLately, IsLater, IsTimeLeft, NotesLearned, NotesSent, earlier, time_to_learn, took};
 
 use crate::limits::LONG_PAUSE;
 use crate::pace::Pace;
 use std::time::{Duration, Instant};
 
-/// The last rest of a node, and what has happened since it began. A time that the clock could not
-/// tell is `None`. Without `until` the rest is over.
+/// The last rest of a node, what has happened since it began, and when the node ticked last. A time
+/// that the clock could not tell is `None`. Without `until` the rest is over.
 #[derive(Clone, Copy)]
 pub struct Rest {
     /// When it began, and when it ends.
@@ -23,6 +23,8 @@ pub struct Rest {
     /// rest, that is its beginning; otherwise the first such sending in it. Once a place was
     /// learned in it, it is the first such sending after that. `None` if there was none.
     since: Option<Instant>,
+    /// When the node ticked last. `None` if it has not ticked yet.
+    ticked: Option<Instant>,
 }
 
 /// Returns the time so many milliseconds after another, if both are within what a clock counts.
@@ -66,6 +68,7 @@ impl Rest {
           front = 0;
           has_sent = false;
           since = None;
+          ticked = None;
         } }
     {
         Rest {
@@ -75,6 +78,7 @@ impl Rest {
             front: 0,
             has_sent: false,
             since: None,
+            ticked: None,
         }
     }
 
@@ -112,6 +116,7 @@ impl Rest {
             front,
             has_sent: false,
             since: if self.has_sent { now } else { None },
+            ticked: self.ticked,
         };
     }
 
@@ -136,6 +141,21 @@ impl Rest {
     {
         self.has_sent = false;
         self.until = earlier(self.until, later(self.begun, self.pace.least(size)));
+    }
+
+    /// Notes that the node ticks now.
+    pub fn note_ticked(&mut self, now: Option<Instant>)
+        ensures { self.new ≡ record self.old { ticked = now } }
+    {
+        self.ticked = now;
+    }
+
+    /// Returns true if the node ticked less than 200 milliseconds ago. If the clock could not tell,
+    /// it did not.
+    pub fn has_ticked_lately(&self, now: Option<Instant>) -> bool
+        ensures { IsTrue result ↔ IsLately self.now.ticked now }
+    {
+        self.ticked.is_some() && now.is_some() && took(self.ticked, now) < LONG_PAUSE
     }
 
     /// Returns the time that is left of the rest, or `None` if it is over.

@@ -1,8 +1,9 @@
 //! Typed bytes that come as datagrams.
-ghost use Rattle.std.specs.Prelude.{◌≡◌, IfOk};
+ghost use Rattle.std.specs.Prelude.{◌≡◌, ◌≤◌, length, IfOk, IfSome};
 ghost use Rattle.node_io.specs.Prompts.{Remaining, no_keys, with_more};
 
-use crate::limits::{LONGEST_TYPED, MOST_TAKEN_IN, REQUESTS_APART};
+use crate::drained::Drained;
+use crate::limits::{LONGEST_TYPED, MOST_TAKEN_IN, REQUESTS_APART, TYPED_PASSED_OVER};
 use crate::typed_queue::TypedQueue;
 use crate::udp::receive_from;
 use group_protocol::limits::MOST_WAITING;
@@ -22,6 +23,7 @@ use std::time::{Clock, Duration, Instant};
 pub struct TypedDatagrams<'a, H> {
     clock: &'a H,
     socket: UdpSocket,
+    drained: Drained,
     queue: TypedQueue,
     /// When the last request was given.
     asked: Option<Instant>,
@@ -47,6 +49,7 @@ impl<'a, H: Clock> TypedDatagrams<'a, H> {
         Ok(TypedDatagrams {
             clock,
             socket,
+            drained: Drained::new(TYPED_PASSED_OVER),
             queue: TypedQueue::new(alloc)?,
             asked: None,
         })
@@ -60,12 +63,32 @@ impl<'a, H: Clock> TypedDatagrams<'a, H> {
         now.saturating_duration_since(asked) >= Duration::from_millis(REQUESTS_APART)
     }
 
+    /// Returns true if the socket is passed over now.
+    fn is_passed_over(&mut self) -> bool
+        ensures same { self.new ≡ self.old }
+    {
+        self.drained.passes()
+    }
+
+    /// Receives the next datagram, if one is there. Returns its length.
+    fn receive(&mut self, buffer: &mut [u8]) -> Option<usize>
+        ensures same { self.new ≡ self.old }
+        ensures within { IfSome result (λ count. count ≤ length buffer.new) }
+    {
+        let received = receive_from(&self.socket, buffer);
+        if received.is_none() {
+            self.drained.note_empty();
+        }
+        let (count, _source) = received?;
+        Some(count)
+    }
+
     /// Takes in the next datagram. Returns false if none is there.
     fn take_in(&mut self) -> bool
         ensures came { (came : Remaining) × (self.new ≡ with_more came self.old) }
     {
         let mut buffer = [0u8; LONGEST_TYPED + 1];
-        let Some((count, _)) = receive_from(&self.socket, &mut buffer) else {
+        let Some(count) = self.receive(&mut buffer) else {
             return false;
         };
         let is_apart = count > 0 || self.is_apart();
@@ -80,8 +103,16 @@ impl<H: Clock> Keyboard for TypedDatagrams<'_, H> {
     // What will come is not known, but what is left of what has come is.
     ghost keys = { λ t. record { left = t; is_closed = false; taken_in = None; looks = None } };
 
-    /// Takes in the datagrams that are there, at most 256.
+    fn note_came(&mut self) {
+        self.drained.note_came();
+    }
+
+    /// Takes in the datagrams that are there, at most 256. It asks the system for none if there was
+    /// none shortly before and none is known to have come since.
     fn look(&mut self) {
+        if self.is_passed_over() {
+            return;
+        }
         for _ in 0..MOST_TAKEN_IN {
             if !self.take_in() {
                 return;

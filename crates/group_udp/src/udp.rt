@@ -3,7 +3,9 @@ ghost use Rattle.std.specs.Prelude.{◌≡◌, ◌≤◌, length, IfErr, IfSome}
 ghost use Rattle.node_io.specs.Refusals.{IsOpenRefusal, IsSocketRefusal};
 ghost use Rattle.group_udp.specs.Sources.{drop_of};
 
+use crate::drained::Drained;
 use crate::kinds::is_ask;
+use crate::limits::OWN_PASSED_OVER;
 use crate::own_datagrams::OwnDatagrams;
 use crate::rest::Rest;
 use crate::sources::{address_at, is_from_sender, taken_of};
@@ -86,13 +88,16 @@ impl Watch {
         self.add(socket, TYPED)
     }
 
-    /// Waits up to `most` for a datagram. Returns true if a typed one came; each arrival is
-    /// reported once.
-    fn wait(&mut self, most: Duration) -> bool {
-        match self.poll.poll(&mut self.events, Some(most)) {
-            Ok(()) => self.events.iter().any(|event| event.token() == TYPED),
-            Err(_) => false,
+    /// Waits up to `most` for a datagram. Each arrival is reported once (`has_come`).
+    fn wait(&mut self, most: Duration) {
+        if self.poll.poll(&mut self.events, Some(most)).is_err() {
+            self.events.clear();
         }
+    }
+
+    /// Returns true if a datagram has come to this socket, by the last wait.
+    fn has_come(&self, token: Token) -> bool {
+        self.events.iter().any(|event| event.token() == token)
     }
 }
 
@@ -107,6 +112,8 @@ pub struct UdpWire<'a, H: Files> {
     socket: UdpSocket,
     watch: Watch,
     addresses: &'a [SocketAddr],
+    /// Whether the socket had nothing.
+    drained: Drained,
     own: OwnDatagrams,
     /// True if the next receive takes one of the node's own first. While both have some, they and
     /// the socket's come in turn, so that neither many datagrams of others nor a long answer of the
@@ -147,6 +154,7 @@ impl<'a, H: Clock + Files + AllocGlobal> UdpWire<'a, H> {
             socket,
             watch,
             addresses,
+            drained: Drained::new(OWN_PASSED_OVER),
             own,
             is_own_next: true,
             rest: Rest::new(),
@@ -212,11 +220,18 @@ impl<'a, H: Clock + Files + AllocGlobal> UdpWire<'a, H> {
     }
 
     /// Receives the next datagram of the socket, if one is there. One from another address than its
-    /// sender's counts as an empty one, which spells no message.
+    /// sender's counts as an empty one, which spells no message. If the socket had nothing when it
+    /// was asked last, it may be passed over.
     fn receive_in(&mut self, buffer: &mut [u8]) -> Option<usize>
         ensures within { IfSome result (λ count. count ≤ length buffer.new) }
     {
-        let (count, source) = receive_from(&self.socket, buffer)?;
+        if self.drained.passes() {
+            return None;
+        }
+        let Some((count, source)) = receive_from(&self.socket, buffer) else {
+            self.drained.note_empty();
+            return None;
+        };
         self.came_from(Some(source));
         let datagram = &buffer[..count];
         let is_from_sender = is_from_sender(self.addresses, source, datagram);
@@ -279,15 +294,32 @@ impl<H: Clock + Files + AllocGlobal> RestingWire for UdpWire<'_, H> {
         self.rest.left(self.now()).is_none()
     }
 
+    fn note_ticked(&mut self) {
+        let now = self.now();
+        self.rest.note_ticked(now);
+    }
+
+    /// Returns true if the node ticked less than 200 milliseconds ago.
+    fn awaits_answers(&self) -> bool {
+        self.rest.has_ticked_lately(self.now())
+    }
+
     /// Waits for a datagram, unless one of the node's own is there.
     fn wait(&mut self) -> Waited {
         if !self.own.is_empty() {
             return Waited::Datagram;
         }
-        match self.rest.left(self.now()) {
-            Some(left) if self.watch.wait(left) => Waited::Keyboard,
-            Some(_) => Waited::Datagram,
-            None => Waited::Over,
+        let Some(left) = self.rest.left(self.now()) else {
+            return Waited::Over;
+        };
+        self.watch.wait(left);
+        if self.watch.has_come(OWN) {
+            self.drained.note_came();
+        }
+        if self.watch.has_come(TYPED) {
+            Waited::Keyboard
+        } else {
+            Waited::Datagram
         }
     }
 }

@@ -25,6 +25,7 @@ use Rattle.group_node.specs.NodeCalls.{Running, call_of_campaign, running}
 use Rattle.group_wire.specs.Doings.{ActsBy, DoesAll, DoesOnWire, Doing, Fails, HasActed, after_fate, after_heard, deed_of, hearing, last_receiving, prompt_in, prompts_of, receives, sent_of, ticked_if, ticking, transfers_of}
 use Rattle.group_wire.specs.Traffic.{Traffic, grown}
 use Rattle.group_wire.specs.Campaigns.{HasCampaigned}
+use Rattle.group_wire.specs.declared.rested.Rested.{Rested}
 use Rattle.group_wire.specs.Turns.{HasFailedAt, HasHeard, HasTurned, HearsSome, TellsOfOne, is_made}
 use Rattle.group_wire.proofs.Carrying.{grown_twice, passed_then}
 use Rattle.group_wire.proofs.Hearing.{after_came}
@@ -128,12 +129,12 @@ abbrev turn_run : Doing
 turn_run = record { deed = Run TURN_STEPS; given = []; sent = []; typed = [] }
 
 -- it has stopped then exactly if it had before, which it had not
-turn_stops : {S : Type 0} {kind : StoreKind S} {rested : Option ℕ} {old new : NodeState S} {from to : Option Traffic} (done : Turned)
+turn_stops : {S : Type 0} {kind : StoreKind S} {rested : Rested} {old new : NodeState S} {from to : Option Traffic} (done : Turned)
     → HasTurned kind rested old new from to (Ok done) → (new.protocol.is_stopped ≡ true) ↔ ((old.protocol.is_stopped ≡ true) ⊎ ⊥)
 turn_stops done h = grind (arith, h.stops, h.stopped)
 
 -- the deeds of a turn that was not refused
-turn_acts : {S : Type 0} {kind : StoreKind S} {rested : Option ℕ} {old new : NodeState S} {from to : Option Traffic} (done : Turned)
+turn_acts : {S : Type 0} {kind : StoreKind S} {rested : Rested} {old new : NodeState S} {from to : Option Traffic} (done : Turned)
     → HasTurned kind rested old new from to (Ok done) → IsReplay (input new.protocol.known) new.progress
     → HasActed old new from to (Run TURN_STEPS ∷ [])
 turn_acts {S} {kind} {old} {new} {from} {to} done h replay =
@@ -183,7 +184,7 @@ hears_fails kind came (Refuses bytes m) {old} {new} ends h =
     )
 
 -- the deeds of a turn, by its answer
-pub turn_acts_by : {S : Type 0} {kind : StoreKind S} {rested : Option ℕ} {old new : NodeState S} {from to : Option Traffic}
+pub turn_acts_by : {S : Type 0} {kind : StoreKind S} {rested : Rested} {old new : NodeState S} {from to : Option Traffic}
     (result : Result Turned NodeFault) → HasTurned kind rested old new from to result
     → IsReplay (input new.protocol.known) new.progress → ActsBy kind old new from to (Run TURN_STEPS ∷ []) [] result
 turn_acts_by (Ok done) h replay = turn_acts done h replay

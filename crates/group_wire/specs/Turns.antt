@@ -15,6 +15,8 @@ use Rattle.group_wire.specs.declared.answers.Received.TheVariants as answer
 use Rattle.group_wire.specs.declared.answers.Tick.{Tick}
 use Rattle.group_wire.specs.declared.answers.Tick.TheVariants as tick
 use Rattle.group_wire.specs.declared.answers.Turned.{Turned}
+use Rattle.group_wire.specs.declared.rested.Rested.{Rested}
+use Rattle.group_wire.specs.declared.rested.Rested.TheVariants.{Awaits, From, No}
 use Rattle.group_wire.specs.declared.limits.TheConstants.{MOST_RECEIVES, TURN_STEPS}
 use Rattle.group_wire.specs.Arrivals.{Arrival, Ending, EndsAt, Fate, GoesOn, Hears, IsFateOf, IsSpelledEnding, IsUnheard, Loses, NoMessage, NoneCame, TooLong, heard_of, lost_of, received}
 use Rattle.group_wire.specs.Doings.{MayHaveFates, after_heard, hearing, ticked_if, ticking, transfers_of}
@@ -84,12 +86,14 @@ IsCaughtUp n = (n.waiting ≡ []) × (place_after n.kept.votes ≡ front n)
 
 -- Whether the tick of a turn is due at a node that knows this, once it has heard what came. After a
 -- rest it is not if a place was learned since the rest began, and the node has caught up: then it
--- knows of nothing that its Ask could bring. `rested` is the known front at the begin of the rest,
--- if the node has rested.
+-- knows of nothing that its Ask could bring. Where answers to what it would repeat are due, it is
+-- not if a place was learned and no key waits: then places are being learned without it.
 -- Allows: a tick for which memory runs out.
-abbrev pub IsTickDue : Option ℕ → Known → Type 0
-IsTickDue None n = Unit {0}
-IsTickDue (Some rested) n = ¬ ((rested < front n) × IsCaughtUp n)
+-- Forbids: a key that waits, and is not submitted for want of a tick.
+abbrev pub IsTickDue : Rested → Known → Type 0
+IsTickDue No n = Unit {0}
+IsTickDue (From rested) n = ¬ ((rested < front n) × IsCaughtUp n)
+IsTickDue (Awaits rested) n = ¬ ((rested < front n) × (n.waiting ≡ []))
 
 -- ---- what the answers say
 
@@ -192,7 +196,7 @@ pub record HasHeard {S : Type 0} (kind : StoreKind S)
 -- only as `Store`. After a refusal the node is stopped, after `Ok` it is not. One more fault is
 -- counted exactly at `Store`.
 -- Forbids: a tick that is not due.
-pub record HasTurned {S : Type 0} (kind : StoreKind S) (rested : Option ℕ)
+pub record HasTurned {S : Type 0} (kind : StoreKind S) (rested : Rested)
     (old new : NodeState S) (from to : Option Traffic) (result : Result Turned NodeFault)
     : Type 0 where
   pub came : List Arrival

@@ -4,7 +4,7 @@
 //! calls do most of the work:
 //!
 //! - `Host::start(alloc, program, config, store)` starts a node over its store.
-//! - `host.turn(&mut wire, None)` takes the datagrams that are there, ticks, and runs the machine.
+//! - `host.turn(&mut wire, Rested::No)` takes the datagrams that are there, ticks, and runs the machine.
 //!   What the node sends goes out in the same call.
 //! - `host.release()` gives the next byte of the program's output, with its number.
 //!
@@ -18,6 +18,7 @@ mod host;
 pub mod laws;
 pub mod limits;
 mod press;
+mod rested;
 mod sending;
 mod trace_event;
 mod turns;
@@ -25,5 +26,6 @@ mod wire;
 
 pub use answers::{Received, Tick, Turned};
 pub use host::Host;
+pub use rested::Rested;
 pub use trace_event::TraceEvent;
 pub use wire::Wire;

@@ -13,6 +13,7 @@ ghost use Rattle.group_wire.specs.Traffic.{Receives, Traffic, grown};
 use crate::answers::{Received, Tick, Turned};
 use crate::host::Host;
 use crate::limits::{MOST_RECEIVES, TURN_STEPS};
+use crate::rested::Rested;
 use crate::sending::send_all;
 use crate::trace_event::TraceEvent;
 use crate::wire::Wire;
@@ -37,14 +38,14 @@ fn is_caught_up<S: Store>(node: &Node<'_, S>) -> bool
     is_last_known && node.waiting() == 0
 }
 
-/// Returns true if the tick of a turn is due at this node. `rested` is its known front at the begin
-/// of its rest, if it has rested.
-fn is_tick_due<S: Store>(node: &Node<'_, S>, rested: Option<u32>) -> bool
+/// Returns true if the tick of a turn is due at this node, which has rested so.
+fn is_tick_due<S: Store>(node: &Node<'_, S>, rested: Rested) -> bool
     ensures { IsTrue result ↔ IsTickDue rested node.now.protocol.known }
 {
     match rested {
-        None => true,
-        Some(front) => front >= node.known_front() || !is_caught_up(node),
+        Rested::No => true,
+        Rested::From(front) => front >= node.known_front() || !is_caught_up(node),
+        Rested::Awaits(front) => front >= node.known_front() || node.waiting() > 0,
     }
 }
 
@@ -131,7 +132,7 @@ impl<'a, S: Store> Host<'a, S> {
 
     /// Ticks, if the tick is due, and passes what the node sends to the wire. If memory runs out
     /// nothing changes.
-    fn tick<T: Wire>(&mut self, wire: &mut T, rested: Option<u32>) -> Result<Tick, NodeFault>
+    fn tick<T: Wire>(&mut self, wire: &mut T, rested: Rested) -> Result<Tick, NodeFault>
         ensures due { IfOk result (λ done.
             (done ≢ tick.NotDue) ↔ IsTickDue rested self.old.protocol.known) }
         ensures known { IfOk result (λ done.
@@ -176,7 +177,7 @@ impl<'a, S: Store> Host<'a, S> {
     }
 
     /// Takes a turn, as `turn` says.
-    fn take_turn<T: Wire>(&mut self, wire: &mut T, rested: Option<u32>) -> Result<Turned, NodeFault>
+    fn take_turn<T: Wire>(&mut self, wire: &mut T, rested: Rested) -> Result<Turned, NodeFault>
         ensures turned { HasTurned S.kind rested self.old self.new (T.traffic wire.old)
             (T.traffic wire.new) result }
     {
@@ -216,11 +217,12 @@ impl<'a, S: Store> Host<'a, S> {
     /// calls send goes to `wire`, in order. Returns why the run ended, what became of the tick, and
     /// how many messages were lost.
     ///
-    /// `rested` is the known front of the node when it began to rest before this turn, or `None` if
-    /// it has not rested. The tick is due unless a place was learned since then, none of the node's
-    /// keys waits, and the last place at which it has voted is the one below its known front
-    /// (`IsTickDue`): then the node knows of nothing that such a tick could bring. With `None` the
-    /// tick is always due.
+    /// `rested` has the known front of the node when it began to rest before this turn. The tick is
+    /// due unless a place was learned since then, none of the node's keys waits, and the last place
+    /// at which it has voted is the one below its known front (`IsTickDue`): then the node knows of
+    /// nothing that such a tick could bring. Where answers to what it would repeat are due
+    /// (`Rested::Awaits`), its votes do not matter. Without a rest (`Rested::No`) the tick is always
+    /// due.
     ///
     /// Fails with `Stopped` exactly if a save had failed before, or with `Store` if one fails now.
     /// The node hears each message of the group that a datagram spells, in order, but for those
@@ -233,7 +235,7 @@ impl<'a, S: Store> Host<'a, S> {
     /// the last datagram that came; the node is what the messages before it left, and an honest
     /// store has that node's record or that of the message's response. After a refusal there is no
     /// tick and no step, and the node is stopped; after `Ok` it is not.
-    pub fn turn<T: Wire>(&mut self, wire: &mut T, rested: Option<u32>) -> Result<Turned, NodeFault>
+    pub fn turn<T: Wire>(&mut self, wire: &mut T, rested: Rested) -> Result<Turned, NodeFault>
         ensures turned { HasTurned S.kind rested self.old self.new (T.traffic wire.old)
             (T.traffic wire.new) result }
         ensures acts { ActsBy S.kind self.old self.new (T.traffic wire.old) (T.traffic wire.new)

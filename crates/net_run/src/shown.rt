@@ -15,8 +15,8 @@ ghost use Rattle.net_run.specs.Shown.{HasShownAll, ReleasesFirst, ShowsReleased}
 use group_log::end_to_note;
 use group_node::{Config, Console, Offer};
 use group_udp::UdpWire;
-use group_wire::Host;
 use group_wire::laws::deeds_go_on;
+use group_wire::{Host, Rested};
 use machine_run::RunIo;
 use node_io::{GroupFault, RestingWire};
 use paxos_acceptor::{MemoryStore, Store};
@@ -154,7 +154,7 @@ impl<'a, H: Clock + Files + AllocGlobal> ShownNode<'a, H> {
         deeds_go_on::<MemoryStore>();
         self.wire.begin_rest(self.host.node().known_front());
         self.wire.wait();
-        let turned = self.host.turn(&mut self.wire, None)?;
+        let turned = self.host.turn(&mut self.wire, Rested::No)?;
         self.show_output()?;
         let end = end_to_note(self.has_ended, turned.ran.end());
         self.has_ended = self.has_ended || end.is_some();

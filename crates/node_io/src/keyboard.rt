@@ -13,6 +13,11 @@ pub trait Keyboard {
     /// remembers that; and how often it was looked at, where it counts that.
     ghost keys: { Self → KeyboardState };
 
+    /// Notes that something may have come, for which a wait has ended. A keyboard that knows of
+    /// nothing may leave out some of its work in looks until then.
+    fn note_came(&mut self)
+        ensures same { keys self.new ≡ keys self.old };
+
     /// Looks whether more has come, and takes in all of it or some. Nothing is given or lost.
     fn look(&mut self)
         ensures came { GivesWhatCame (keys self.old) [] (keys self.new) }

@@ -29,6 +29,15 @@ pub trait RestingWire: Wire {
     /// Returns true if the rest is over.
     fn is_over(&self) -> bool;
 
+    /// Notes that the node has ticked.
+    fn note_ticked(&mut self)
+        ensures passed { Self.traffic self.new ≡ Self.traffic self.old };
+
+    /// Returns true if answers to what a tick would repeat are due, since the node has ticked a
+    /// short while ago. While a wire says so and places are learned, a node at which no key waits
+    /// does not tick.
+    fn awaits_answers(&self) -> bool;
+
     /// Waits until something may have come, or until the rest is over. Call it once a receive has
     /// given nothing: what is there already need not end it.
     fn wait(&mut self) -> Waited

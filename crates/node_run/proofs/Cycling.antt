@@ -1,5 +1,5 @@
 -- The cycles of a run, by what each call of it did.
-use Rattle.std.proofs.Common.{◌≡◌, ℕ, suc, inl, inr, List, [], ◌∷◌, Option, Some, Ok, Err, refl}
+use Rattle.std.proofs.Common.{◌≡◌, ℕ, suc, inl, inr, List, [], ◌∷◌, Option, Ok, Err, refl}
 use Rattle.paxos_acceptor.specs.Stores.{StoreKind}
 use Rattle.group_protocol.specs.declared.fault.NodeFault.{NodeFault}
 use Rattle.group_protocol.specs.Known.{front}
@@ -11,12 +11,13 @@ use Rattle.node_io.specs.declared.fault.GroupFault.TheVariants as group
 use Rattle.node_io.specs.Prompts.{GivesWhatCame, KeyboardState}
 use Rattle.group_wire.specs.declared.answers.Received.{Received}
 use Rattle.group_wire.specs.declared.answers.Turned.{Turned}
+use Rattle.group_wire.specs.declared.rested.Rested.{Rested}
 use Rattle.group_wire.specs.Traffic.{Traffic}
 use Rattle.group_wire.specs.Doings.{HasActed}
 use Rattle.group_wire.specs.Turns.{HasHeard, HasTurned, SameReleased}
 use Rattle.node_run.specs.declared.answering.Answered.{Answered}
 use Rattle.node_run.specs.Answering.{AnswersWhatCame, HasAnsweredKeyboard}
-use Rattle.node_run.specs.Cycles.{EndsBeforeRelease, HearsTimes, HearsOnce, HearsAtRest, Rests, IsCycleUpToRelease, run_moment}
+use Rattle.node_run.specs.Cycles.{EndsBeforeRelease, HearsTimes, HearsOnce, HearsAtRest, IsRestedSince, Rests, IsCycleUpToRelease, run_moment}
 use Rattle.node_run.specs.declared.retries.Retried.{Retried}
 use Rattle.node_run.specs.Course.{Surroundings, FailsAt, around}
 use Rattle.node_run.specs.Retries.{HasRetried}
@@ -111,12 +112,13 @@ module _ {S : Type 0} (kind : StoreKind S) (written : Option (List ℕ)) where
       module _ {typed : NodeState S} {via : Surroundings} (answer : Answered)
           (did : AnswersWhatCame kind answer tried typed after via) where
         -- a turn that was refused
-        pub turn_ended : {new : NodeState S} {to : Option Traffic} {e : GroupFault} → (f : NodeFault)
-            × HasTurned kind (Some (front old.protocol.known)) typed new via.traffic to (Err f) × (e ≡ group.Node f)
+        pub turn_ended : {new : NodeState S} {to : Option Traffic} {e : GroupFault}
+            → (how : Rested) × IsRestedSince (front old.protocol.known) how × (f : NodeFault)
+            × HasTurned kind how typed new via.traffic to (Err f) × (e ≡ group.Node f)
             → FailsAt kind typed new via.traffic to [] e → SameReleased old new
             → EndsBeforeRelease kind (run_moment old (around t keys retries) written)
             (run_moment new (around to via.keyboard via.retries) written) e
-        turn_ended (f, turned, is) fails stays = (
+        turn_ended (how, since, f, turned, is) fails stays = (
           stays,
           inr (inr (inr (record {
             rested = run_moment mid (around u seen retries) written;
@@ -128,6 +130,8 @@ module _ {S : Type 0} (kind : StoreKind S) (written : Option (List ℕ)) where
             campaigns = record { did = again; unwritten = refl };
             answers = record { did = did; unwritten = refl };
             fault = f;
+            how = how;
+            since = since;
             did = turned;
             is = is;
             fails = fails;
@@ -138,13 +142,13 @@ module _ {S : Type 0} (kind : StoreKind S) (written : Option (List ℕ)) where
         )
 
         -- a turn
-        pub turned_once : {new : NodeState S} {to : Option Traffic} {turned : Turned}
-            → HasTurned kind (Some (front old.protocol.known)) typed new via.traffic to (Ok turned)
+        pub turned_once : {new : NodeState S} {to : Option Traffic} {turned : Turned} (how : Rested)
+            → IsRestedSince (front old.protocol.known) how → HasTurned kind how typed new via.traffic to (Ok turned)
             → HasActed typed new via.traffic to (Run 1000 ∷ []) → IsReplay (input new.protocol.known) new.progress
             → SameReleased old new
             → IsCycleUpToRelease kind (run_moment old (around t keys retries) written)
             (run_moment new (around to via.keyboard via.retries) written)
-        turned_once {turned = turned} turn acted replay stays = record {
+        turned_once {turned = turned} how since turn acted replay stays = record {
           rested = run_moment mid (around u seen retries) written;
           tried = run_moment tried after written;
           answered = run_moment typed via written;
@@ -154,6 +158,15 @@ module _ {S : Type 0} (kind : StoreKind S) (written : Option (List ℕ)) where
           rests = rested rest looks;
           campaigns = record { did = again; unwritten = refl };
           answers = record { did = did; unwritten = refl };
-          turns = record { did = turn; acts = acted; replay = replay; untyped = refl; retries = refl; unwritten = refl };
+          turns = record {
+            rested = how;
+            since = since;
+            did = turn;
+            acts = acted;
+            replay = replay;
+            untyped = refl;
+            retries = refl;
+            unwritten = refl;
+          };
           stays = stays;
         }

@@ -12,6 +12,8 @@ use Rattle.node_io.specs.Prompts.{GivesWhatCame}
 use Rattle.node_io.specs.Refusals.{IsCampaignRefusal}
 use Rattle.group_wire.specs.declared.answers.Received.{Received}
 use Rattle.group_wire.specs.declared.answers.Turned.{Turned}
+use Rattle.group_wire.specs.declared.rested.Rested.{Rested}
+use Rattle.group_wire.specs.declared.rested.Rested.TheVariants.{Awaits, From}
 use Rattle.group_wire.specs.declared.limits.TheConstants.{TURN_STEPS}
 use Rattle.group_wire.specs.Doings.{HasActed}
 use Rattle.group_wire.specs.Traffic.{Traffic}
@@ -88,13 +90,20 @@ pub record AnswersKeyboard {S : Type 0} (kind : StoreKind S) (answer : Answered)
   pub did : AnswersWhatCame kind answer a.node b.node a.around b.around
   pub unwritten : b.written ≡ a.written
 
+-- What a turn knows of its cycle, at the begin of which the known front was this one. Answers may
+-- be due, which the wire says.
+abbrev pub IsRestedSince : ℕ → Rested → Type 0
+IsRestedSince begun rested = (rested ≡ From begun) ⊎ (rested ≡ Awaits begun)
+
 -- A turn: the node hears, ticks if that is due and memory suffices, and runs its machine. Then its
 -- progress is that of a replay from the start on the learned input (`IsReplay`). The tick is not
--- due if the known front is above `begun` and the node has caught up. Otherwise it is due.
+-- due if the known front is above `begun` and the node has caught up; or if it is, answers are due,
+-- and no key waits. Otherwise it is due (`IsTickDue`).
 pub record TakesTurn {S : Type 0} (kind : StoreKind S) (begun : ℕ) (turned : Turned)
     (a b : RunMoment S) : Type 0 where
-  pub did :
-      HasTurned kind (Some begun) a.node b.node a.around.traffic b.around.traffic (Ok turned)
+  pub rested : Rested
+  pub since : IsRestedSince begun rested
+  pub did : HasTurned kind rested a.node b.node a.around.traffic b.around.traffic (Ok turned)
   pub acts : HasActed a.node b.node a.around.traffic b.around.traffic (Run TURN_STEPS ∷ [])
   pub replay : IsReplay (input b.node.protocol.known) b.node.progress
   pub untyped : b.around.keyboard ≡ a.around.keyboard
@@ -117,7 +126,7 @@ front_at a = front a.node.protocol.known
 
 -- A cycle up to its release: a rest, a campaign once more if one is due, the keyboard, and a turn.
 -- The turn leaves its tick out if the known front has risen since the cycle began and the node has
--- caught up. Nothing is released.
+-- caught up, or awaits answers and has no key that waits. Nothing is released.
 pub record IsCycleUpToRelease {S : Type 0} (kind : StoreKind S) (a b : RunMoment S) : Type 0 where
   pub rested : RunMoment S
   pub tried : RunMoment S
@@ -188,7 +197,9 @@ pub record EndsAtTurn {S : Type 0} (kind : StoreKind S) (a b : RunMoment S) (e :
   pub campaigns : CampaignsAgain kind retried rested tried
   pub answers : AnswersKeyboard kind answer tried answered
   pub fault : NodeFault
-  pub did : HasTurned kind (Some (front_at a)) answered.node b.node answered.around.traffic
+  pub how : Rested
+  pub since : IsRestedSince (front_at a) how
+  pub did : HasTurned kind how answered.node b.node answered.around.traffic
       b.around.traffic (Err fault)
   pub is : e ≡ group.Node fault
   pub fails : FailsAt kind answered.node b.node answered.around.traffic b.around.traffic [] e

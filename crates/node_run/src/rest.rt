@@ -1,14 +1,15 @@
 //! A node's rest between two turns, and a turn.
-ghost use Rattle.std.specs.Prelude.{◌≡◌, [], ◌∷◌, false, true, Err, Ok, Some, IfErr, IfOk, OnOk};
+ghost use Rattle.std.specs.Prelude.{◌≡◌, [], ◌∷◌, false, true, Err, Ok, IfErr, IfOk, OnOk};
 ghost use Rattle.group_node.specs.Deeds.{Run};
 ghost use Rattle.group_wire.specs.declared.answers.Turned.{Turned};
+ghost use Rattle.group_wire.specs.declared.rested.Rested.{Rested};
 ghost use Rattle.group_wire.specs.declared.limits.TheConstants.{TURN_STEPS};
 ghost use Rattle.group_wire.specs.Doings.{HasActed};
 ghost use Rattle.group_wire.specs.Turns.{HasTurned, SameReleased};
 ghost use Rattle.group_protocol.specs.declared.fault.NodeFault.{NodeFault};
 ghost use Rattle.node_io.specs.declared.fault.GroupFault.TheVariants as group;
 ghost use Rattle.node_io.specs.Prompts.{GivesWhatCame};
-ghost use Rattle.node_run.specs.Cycles.{HearsOnce, HearsAtRest};
+ghost use Rattle.node_run.specs.Cycles.{HearsOnce, HearsAtRest, IsRestedSince};
 ghost use Rattle.node_run.specs.Course.{FailsAt, HasRested};
 ghost use Rattle.node_run.specs.Output.{SameProgram};
 ghost use Rattle.node_run.specs.Keeping.{KeepsOutput, Works};
@@ -17,7 +18,7 @@ use crate::endpoints::Endpoints;
 use crate::limits::MOST_RESTING;
 use group_node::Ran;
 use group_wire::laws::deeds_go_on;
-use group_wire::{Host, Received, Wire};
+use group_wire::{Host, Received, Rested, Tick};
 use node_io::{GroupFault, Keyboard, RestingWire, Waited};
 use paxos_acceptor::Store;
 use paxos_msg::limits::MOST_CHARACTERS;
@@ -41,6 +42,7 @@ fn wait<T: RestingWire, K: Keyboard>(endpoints: &mut Endpoints<T, K>, waiting: u
         Waited::Over => true,
         Waited::Datagram => false,
         Waited::Keyboard => {
+            endpoints.keyboard.note_came();
             endpoints.keyboard.look();
             is_calling(&endpoints.keyboard, waiting)
         }
@@ -153,31 +155,48 @@ pub fn is_busy_after(ran: Ran) -> bool {
     }
 }
 
+/// Returns what a turn is to know of its cycle, at the begin of which the node's known front was at
+/// `begun`: that, and whether answers are due.
+fn rested_since<T: RestingWire>(wire: &T, begun: u32) -> Rested
+    ensures { IsRestedSince begun result }
+{
+    if wire.awaits_answers() {
+        Rested::Awaits(begun)
+    } else {
+        Rested::From(begun)
+    }
+}
+
 /// Takes a turn of a node on its wire. The node's known front was at `begun` when its cycle began.
 /// Returns why its machine stopped.
-pub fn own_turn<T: Wire, S: Store>(
+pub fn own_turn<T: RestingWire, S: Store>(
     host: &mut Host<'_, S>,
     wire: &mut T,
     begun: u32,
 ) -> Result<Ran, GroupFault>
     requires works { Works host.old }
     ensures works { OnOk result (Works host.new) }
-    ensures turned { IfOk result (λ ran. (done : Turned)
-        × HasTurned S.kind (Some begun) host.old host.new (T.traffic wire.old)
+    ensures turned { IfOk result (λ ran. (rested : Rested) × IsRestedSince begun rested
+        × (done : Turned) × HasTurned S.kind rested host.old host.new (T.traffic wire.old)
         (T.traffic wire.new) (Ok done) × (ran ≡ done.ran)) }
     ensures acts { OnOk result (HasActed host.old host.new (T.traffic wire.old) (T.traffic wire.new)
         (Run TURN_STEPS ∷ [])) }
     ensures refused { IfErr result
         (FailsAt S.kind host.old host.new (T.traffic wire.old) (T.traffic wire.new) []) }
-    ensures fault { IfErr result (λ e. (f : NodeFault)
-        × HasTurned S.kind (Some begun) host.old host.new (T.traffic wire.old)
-        (T.traffic wire.new) (Err f)
-        × (e ≡ group.Node f)) }
+    ensures fault { IfErr result (λ e. (rested : Rested) × IsRestedSince begun rested
+        × (f : NodeFault) × HasTurned S.kind rested host.old host.new (T.traffic wire.old)
+        (T.traffic wire.new) (Err f) × (e ≡ group.Node f)) }
     ensures program { SameProgram host.old host.new }
     ensures stays { SameReleased host.old host.new }
 {
-    match host.turn(wire, Some(begun)) {
-        Ok(turned) => Ok(turned.ran),
+    let rested = rested_since(wire, begun);
+    match host.turn(wire, rested) {
+        Ok(turned) => {
+            if turned.tick == Tick::Made {
+                wire.note_ticked();
+            }
+            Ok(turned.ran)
+        }
         Err(fault) => Err(GroupFault::Node(fault)),
     }
 }

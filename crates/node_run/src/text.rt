@@ -21,6 +21,8 @@ impl Keyboard for Text<'_> {
       looks = None;
     } };
 
+    fn note_came(&mut self) {}
+
     fn look(&mut self) {}
 
     // A text asks for no campaign.

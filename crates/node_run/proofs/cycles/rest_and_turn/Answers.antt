@@ -48,5 +48,6 @@ returns-clause-turns g c written =
     rw (c.note_wire.ensures.passed, ← c.in_ok-rest_unless_busy.ensures.retries)
     (turned_once g.S.Store.kind written c.in_ok-rest_unless_busy.ensures.hears c.in_ok-rest_unless_busy.ensures.looks
     c.in_ok-retried.retried c.in_ok-retried.ensures.retried
-    c.in_ok-answered.answered c.in_ok-answered.ensures.takes (rw begun at c.in_ok-ran.ensures.turned.1)
+    c.in_ok-answered.answered c.in_ok-answered.ensures.takes c.in_ok-ran.ensures.turned.0
+    (rw begun at c.in_ok-ran.ensures.turned.1) c.in_ok-ran.ensures.turned.3
     c.in_ok-ran.ensures.acts c.unreleased.ensures.replay stays)

@@ -11,7 +11,7 @@ returns-then-not-take_in g c =
     let (came, left) = c.loop.invariant in
     let (more, next) = c.take_in.ensures.came in
     record {
-      came = takes_in _ _ (with_more more came) (next ∙ ap (with_more more) left ∙ came_twice _ came more) refl refl refl refl;
+      came = takes_in _ _ (with_more more came) (next ∙ ap (with_more more) (left ∙ ap (with_more came) c.is_passed_over.ensures.same) ∙ came_twice _ came more) refl refl refl refl;
       counted = refl;
     }
 
@@ -22,4 +22,9 @@ loop-preserved g c =
     (with_more more came, next ∙ ap (with_more more) left ∙ came_twice _ came more)
 
 pub returns : goal.returns
-returns g c = let (came, left) = c.loop.invariant in record { came = takes_in _ _ came left refl refl refl refl; counted = refl }
+returns g c =
+    let (came, left) = c.loop.invariant in
+    record { came = takes_in _ _ came (left ∙ ap (with_more came) c.is_passed_over.ensures.same) refl refl refl refl; counted = refl }
+
+pub returns-then-is_passed_over-clause-came : goal.returns-then-is_passed_over-clause-came
+returns-then-is_passed_over-clause-came g c = takes_in _ _ no_keys (c.is_passed_over.ensures.same ∙ none_came _) refl refl refl refl
