@@ -11,7 +11,7 @@ use std::rt::{Env, Files};
 use std::time::Clock;
 
 /// The version of the program, which is the newest of CHANGELOG.md.
-const VERSION: &str = "0.20.0";
+const VERSION: &str = "0.21.0";
 
 /// Returns the status once a text was written, or could not be.
 fn status_of<E: Write>(errors: &mut E, written: io::Result<()>) -> u8 {
