@@ -131,9 +131,13 @@ class Host:
             system("umount", self.image)
 
 
-def main_as_root(name, *checks):
-    """Runs the checks of a script that wants root. Returns the status."""
+def must_be_root(name):
+    """Says what the script wants if this is not root."""
     if os.geteuid() != 0:
         print(f"{name}: it wants root, for namespaces", file=sys.stderr)
-        return 2
-    return main_of_checks(name, *checks)
+    return os.geteuid() == 0
+
+
+def main_as_root(name, *checks):
+    """Runs the checks of a script that wants root. Returns the status."""
+    return main_of_checks(name, *checks) if must_be_root(name) else 2

@@ -124,12 +124,14 @@ class Beats:
             return [signed(data, self.key)]
         return [line, data] if lines else [line]
 
-    def hear_until(self, end):
-        """Yields what the other supervisors of the session send until then: the node of each, and
-        the heartbeat and what else is said, or None."""
+    def hear_until(self, end, also=()):
+        """Yields what the other supervisors of the session send until then, or until one of these
+        other files can be read: the node of each, and the heartbeat and what else is said, or
+        None."""
         while True:
             left = end - time.monotonic()
-            if left <= 0 or not select.select([self.socket], [], [], left)[0]:
+            there = select.select([self.socket, *also], [], [], left)[0] if left > 0 else []
+            if there != [self.socket]:
                 return
             try:
                 data, source = self.socket.recvfrom(MOST)

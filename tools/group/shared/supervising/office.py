@@ -13,6 +13,11 @@ later. One that keeps a majority is disturbed by no node that does not hear it: 
 where a majority, itself included, hears no leader. But keys that are typed where the leader is not
 heard wait. So a node is also asked that hears the leader and one that does not, where more nodes
 and it hear each other than the leader and others: the hub, where all hear a hub alone.
+
+A node whose process has ended, as its supervisor sees, does not lead, and nobody waits for it. Its
+supervisor says that it led just longer ago than counts, once, and the time grows from there. So the
+next in number is due at once, and the one after it only if nobody has led by then. A supervisor
+that begins says the same of its node.
 """
 
 import collections
@@ -24,8 +29,9 @@ Beat = collections.namedtuple("Beat", "session node promised age is_led hears")
 # What was heard of a node: when, and of the heartbeat the promised ballot, when it led, and the
 # last two.
 Heard = collections.namedtuple("Heard", "at promised led is_led hears")
-# Longer ago than anything that matters, in seconds.
-LONG = 1e6
+# Longer ago than anything that matters; and by how much more than `silent` it is longer ago than
+# counts, at most, in seconds.
+LONG, MARGIN = 1e6, 0.05
 
 
 class Office:
@@ -36,9 +42,21 @@ class Office:
         self.heard = {}
         # When node `me` led last, when it was asked, when a ballot above all others was seen, when
         # no majority was heard, and when node `me` would have been no better leader.
-        self.led, self.asked = now - LONG, now - LONG
+        self.led, self.asked = self.no_longer(now), now - LONG
         self.changed, self.alone, self.content = now, now, now
         self.greatest = None
+
+    def no_longer(self, now):
+        """When a node led last that others need not wait for. A third of `silent` later, which is
+        much more than this margin, the one after the next is due."""
+        return now - self.silent - min(MARGIN, self.silent / 60)
+
+    def note_down(self, now):
+        """Node `me` has no process, so it does not lead. Only the first call after it led changes
+        something."""
+        self.led = min(self.led, self.no_longer(now))
+        if self.me in self.heard:
+            self.heard[self.me] = self.heard[self.me]._replace(led=self.led)
 
     def note_beat(self, beat, now):
         """What another supervisor tells."""

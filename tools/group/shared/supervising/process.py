@@ -44,6 +44,15 @@ def end_with(parent):
         os._exit(1)
 
 
+def end_of_process(pid):
+    """A file that can be read once a child has ended, in a list, or none if the system has no such
+    files: then it is looked for several times a second."""
+    try:
+        return [os.pidfd_open(pid)]
+    except (AttributeError, OSError):
+        return []
+
+
 def activity_of(pid):
     """What grows while a process runs: its processor time, and how often it was given a processor.
     A node that has nothing to do takes a turn every 10 to 200 milliseconds."""
@@ -73,6 +82,7 @@ class Node:
         self.words = words
         self.is_new = words.new
         self.process, self.before, self.text = None, None, None
+        self.ends = []  # can be read once the process has ended
         self.console = Console(words.console, words.console_limit)
         self.activity, self.speech = None, None
         self.is_held = False
@@ -142,7 +152,7 @@ class Node:
             env={**os.environ, "PGROUP_LOG": "1", "PGROUP_COUNTS": "1"},
             preexec_fn=lambda: end_with(parent),
         ))
-        self.speech = speech
+        self.speech, self.ends = speech, end_of_process(self.process.pid)
         self.started = self.moved = now
         self.is_held = False
         self.end, self.text = None, None
@@ -207,9 +217,16 @@ class Node:
             goes_on = "the node keeps running, and nobody reads what is typed"
             say(self.words, f"says that the program has ended{how}; {goes_on}")
 
-    def note_end(self, status, now):
+    def leave(self):
+        """There is no process any more."""
         self.process, self.front, self.waiting = None, None, None
         self.speech.close()
+        for it in self.ends:
+            os.close(it)
+        self.ends = []
+
+    def note_end(self, status, now):
+        self.leave()
         if status == 2:
             raise Refused("the program refuses its arguments")
         if status == 0 or now - self.started > STEADY:
@@ -257,12 +274,15 @@ class Node:
         is_heard = now - self.moved < silent <= now - self.started
         return self.process is not None and is_heard
 
-    def kill(self):
+    def end_process(self):
+        """Ends the process, if there is one."""
         if self.process is not None:
             self.process.kill()
             self.process.wait()
-            self.process = None
-            self.speech.close()
+            self.leave()
+
+    def kill(self):
+        self.end_process()
         self.console.finish()
 
 
