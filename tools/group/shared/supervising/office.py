@@ -44,7 +44,8 @@ class Office:
         # no majority was heard, and when node `me` would have been no better leader.
         self.led, self.asked = self.no_longer(now), now - LONG
         self.changed, self.alone, self.content = now, now, now
-        self.greatest = None
+        # The greatest ballot that was seen, and whether its node was seen to lead.
+        self.greatest, self.has_led = None, False
 
     def no_longer(self, now):
         """When a node led last that others need not wait for. A third of `silent` later, which is
@@ -80,6 +81,7 @@ class Office:
         # So that a leader that is no longer heard learns of it soon.
         hears = frozenset(self.fresh(now, self.silent / 3)) | {self.me}
         self.heard[self.me] = Heard(now, promised, self.led, False, hears)
+        self.has_led |= self.greatest is not None and self.leader(now) == self.greatest
         if not self.is_heard(now):
             self.alone = now
         if not self.is_better(now):
@@ -96,7 +98,7 @@ class Office:
     def note_ballot(self, promised, now):
         """A ballot above all before is a campaign."""
         if promised is not None and (self.greatest is None or promised > self.greatest):
-            self.greatest, self.changed = promised, now
+            self.greatest, self.changed, self.has_led = promised, now, False
 
     def is_majority(self, count):
         return 2 * count > self.size
@@ -146,6 +148,15 @@ class Office:
         last = 0 if self.greatest is None else self.greatest.node
         return (self.me - last - 1) % self.size
 
+    def nobody_since(self):
+        """Since when nobody leads, and a majority is heard. A campaign is given time until its node
+        leads. A node that has promised another's ballot leads no more."""
+        led = [
+            it.led for node, it in self.heard.items()
+            if it.promised is not None and it.promised.node == node
+        ]
+        return max([self.alone, *led, *([] if self.has_led else [self.changed])])
+
     def is_turn(self, now):
         """Whether node `me` is to be asked: for `silent` seconds a majority was heard and no
         leader, and those whose turn comes before had a third of that each. A majority has to be
@@ -156,8 +167,7 @@ class Office:
         if self.me not in fresh or now - self.asked < self.silent * (1 + self.size / 3):
             return False
         free = [it for it in fresh.values() if not it.is_led]
-        begun = max([self.led, self.changed, self.alone, *(it.led for it in self.heard.values())])
-        is_late = now - begun >= self.silent * (1 + self.rank() / 3)
+        is_late = now - self.nobody_since() >= self.silent * (1 + self.rank() / 3)
         begun = max(self.changed, self.alone, self.content)
         is_missed = now - begun >= self.silent * (1 + self.rank()) / 3
         return self.is_majority(len(free)) and is_late or is_missed
