@@ -12,7 +12,7 @@ import time
 from .codes import with_sentence
 from .frozen import wrote_before
 from .journal import SPARING
-from .record import Damaged, read_record
+from .record import Damaged
 from .session import session_of
 
 # What does not go away by itself: a person has to look.
@@ -147,10 +147,11 @@ def text_of_missing(words):
     )
 
 
-def promised_of(words, is_new):
-    """What the node's record has promised: nothing where it is new, and there is none."""
+def promised_of(words, head, is_new):
+    """What the node's record, which has this head, has promised: nothing where it is new, and there
+    is none."""
     try:
-        record = read_record(words.record)
+        record = head.read(is_all=True)
     except FileNotFoundError:
         if not is_new:
             raise Refused(text_of_missing(words))
@@ -166,8 +167,8 @@ def promised_of(words, is_new):
     return record.promised
 
 
-def check_files(words):
-    """Refuses what a person got wrong before anything is started."""
+def check_files(words, head):
+    """Refuses what a person got wrong before anything is started. The head is of the record."""
     try:
         check_program(words)
         check_session(words)
@@ -176,7 +177,7 @@ def check_files(words):
         check_apart(words)
         if words.new:
             check_new(words)
-        promised_of(words, words.new)
+        promised_of(words, head, words.new)
     except OSError as fault:
         refuse_lasting(fault)
         raise

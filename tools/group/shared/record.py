@@ -1,8 +1,11 @@
 """Reads a node's record, whole or as a log, of version 1 or 2, as docs/FORMATS.md describes it, and
-refuses all that is none."""
+refuses all that is none. What is in order, which may be very many votes, is read by struct; what is
+not is left to a reader that takes field by field, and says what is wrong."""
 
 import collections
+import hashlib
 import os
+import struct
 
 # `promised` is a ballot or None; `votes` has a ballot and a value for each place with a vote.
 Record = collections.namedtuple("Record", "version node size session starts promised votes")
@@ -26,6 +29,9 @@ START, PROMISE, VOTE = 1, 2, 3
 RETIRED = b"retired: "
 # The bytes of a sector, and the most that a save appends.
 SECTOR, MOST_APPENDED = 512, 89
+# A ballot; a vote up to the tag of its value; and a batch up to its count. In version 1 a batch has
+# no count, and in that place its only character.
+BALLOT, VOTE_BEGIN, BATCH_BEGIN = map(struct.Struct, (">IB", ">IIBB", ">BIIB"))
 
 
 class Damaged(Exception):
@@ -48,6 +54,10 @@ class Reader:
 
     def number(self, size):
         return int.from_bytes(self.take(size), "big")
+
+
+def sha256(data):
+    return hashlib.sha256(data).digest()
 
 
 def must(holds, text):
@@ -94,9 +104,45 @@ def value_of(reader, version, size):
     return batch_of(reader, version, size) if tag else NOOP
 
 
+def vote_at(data, at, version, size):
+    """The place, the ballot and the value of the vote that begins there, and where it ends, or None
+    unless all of it is there and in its ranges."""
+    if len(data) < at + 10:
+        return None
+    place, first, second, tag = VOTE_BEGIN.unpack_from(data, at)
+    if place >= PLACES or not first or not 1 <= second <= size:
+        return None
+    at += 10
+    if tag == 0:
+        return place, Ballot(first, second), NOOP, at
+    if tag != 1 or len(data) < at + 10:
+        return None
+    node, start, serial, count = BATCH_BEGIN.unpack_from(data, at)
+    count, at = (count, at + 10) if version == 2 else (1, at + 9)
+    is_one = 1 <= node <= size and start and serial and 1 <= count <= MOST_KEYS
+    if not is_one or serial + count - 1 > LAST_SERIAL or len(data) < at + count:
+        return None
+    value = Batch(node, start, serial, data[at : at + count])
+    return place, Ballot(first, second), value, at + count
+
+
+def plain_votes(reader, count, version, size, promised):
+    """The votes that a whole record begins with, as far as they are in order."""
+    votes, last, at = {}, -1, reader.at
+    while len(votes) < count:
+        vote = vote_at(reader.data, at, version, size)
+        if vote is None or vote[0] <= last or promised is None or vote[1] > promised:
+            break
+        last, ballot, value, at = vote
+        votes[last] = ballot, value
+    reader.at = at
+    return votes, last
+
+
 def votes_of(reader, version, size, promised):
-    votes, last = {}, -1
-    for _ in range(reader.number(4)):
+    count = reader.number(4)
+    votes, last = plain_votes(reader, count, version, size, promised)
+    for _ in range(count - len(votes)):
         place = reader.number(4)
         must(last < place < PLACES, f"a vote at place {place} after one at place {last}")
         ballot = ballot_of(reader, size)
@@ -121,7 +167,8 @@ def owner_of(reader):
 
 
 def head_of(reader, record):
-    """A whole record without its votes."""
+    """A whole record without its votes, of which at least the bytes before these are given."""
+    reader.at = LOG_HEADER
     starts = reader.number(4)
     return record._replace(starts=starts, promised=promised_of(reader, record.size))
 
@@ -172,10 +219,48 @@ def is_torn(end, at, version):
     return version == 2 and len(end) <= MOST_APPENDED and is_lost
 
 
-def with_entries(reader, record, offset, note=lambda record, tag, ballot: None):
+def plain_entry(data, at, version, size):
+    """The place, the ballot and the value of the next entry of a log, as far as it has them, and
+    where it ends, or None unless all of it is there and in its ranges."""
+    tag = data[at] if at < len(data) else 0
+    if tag == VOTE:
+        return vote_at(data, at + 1, version, size)
+    if tag == START:
+        return None, None, NOOP, at + 1
+    if tag != PROMISE or len(data) < at + 6:
+        return None
+    first, second = BALLOT.unpack_from(data, at + 1)
+    return (None, Ballot(first, second), NOOP, at + 6) if first and 1 <= second <= size else None
+
+
+def with_plain_entries(reader, record, note):
+    """The record with the changes of the next entries, as far as they are in order."""
+    data, version, size, votes = reader.data, record.version, record.size, record.votes
+    starts, promised, at = record.starts, record.promised, reader.at
+    while True:
+        entry = plain_entry(data, at, version, size)
+        if entry is None:
+            break
+        place, ballot, value, end = entry
+        if ballot is None and starts == LAST_START or ballot and promised and ballot < promised:
+            break
+        note(starts, promised, data[at], ballot)
+        if ballot is None:
+            starts += 1
+        elif ballot != promised:
+            promised = ballot
+        if place is not None:
+            votes[place] = promised, value
+        at = end
+    reader.at = at
+    return record._replace(starts=starts, promised=promised)
+
+
+def with_entries(reader, record, offset, note=lambda starts, promised, tag, ballot: None):
     """The record with the changes of all whole entries. What a crash may have left of an append is
-    left. The reader's bytes begin at this offset of the log. `note` is given the record before each
-    entry, and the entry's tag and ballot."""
+    left. The reader's bytes begin at this offset of the log. `note` is given the starts and the
+    promised ballot before each entry, and the entry's tag and ballot."""
+    record = with_plain_entries(reader, record, note)
     while not is_cut_at(reader.data, reader.at, record.version):
         at = reader.at
         try:
@@ -185,7 +270,7 @@ def with_entries(reader, record, offset, note=lambda record, tag, ballot: None):
             if is_torn(reader.data[at:], offset + at, record.version):
                 return record
             raise
-        note(record, entry[0], entry[2])
+        note(record.starts, record.promised, entry[0], entry[2])
         record = with_entry(record, *entry)
     return record
 
@@ -211,41 +296,61 @@ def read_record(path):
 
 class Head:
     """The record of a file without its votes, again and again: of a log each time only what was
-    appended is read, and of a whole record never its votes. So it takes no longer where there are
-    many. `under` counts the votes of a log under the ballot that it has promised. `before_last` has
+    appended is read, also if the log was written anew with the same beginning, as by each start of
+    a node; and of a whole record its votes only if that is asked. So it takes no longer where there
+    are many. `under` counts the votes of a log under the ballot that it has promised. `before_last` has
     the starts, the promised ballot and `under` before the log's last entry, and `places` how many
     places there are up to the last one with a vote; None of a whole record."""
+
+    has_votes = False  # Whether a whole record is read with its votes each time.
 
     def __init__(self, path):
         self.path = path
         self.inode = None  # of the log that was read, up to `at`, and has this record up to there
         self.at, self.record, self.under, self.before_last = 0, None, 0, (0, None, 0)
-        self.places = None
+        # The checksum of the log's bytes up to `at`; and that of the whole record that was read
+        # with its votes, with its head and `under`.
+        self.places, self.sum, self.known = None, None, (None, None, 0)
 
-    def read(self):
+    def read(self, is_all=False):
+        """The record. If all is asked, what was changed in place is noticed, and a whole record is
+        read with its votes, as once before a node starts."""
+        is_with_votes = is_all or self.has_votes
         with open(self.path, "rb") as file:
-            inode = os.fstat(file.fileno()).st_ino
-            if inode == self.inode and file.seek(0, os.SEEK_END) >= self.at:
+            inode, size = os.fstat(file.fileno()).st_ino, file.seek(0, os.SEEK_END)
+            if inode == self.inode and size >= self.at and not is_all:
                 file.seek(self.at)
                 return self.follow(file.read())
             file.seek(0)
-            letters, record = owner_of(Reader(file.read(LOG_HEADER)))
-            file.seek(LOG_HEADER)
-            self.under = 0
-            if letters == b"PR":
-                self.inode = self.places = None
-                return self.whole(file, record)
-            self.inode, self.at, self.record, self.places = inode, LOG_HEADER, record, 0
-            return self.follow(file.read())
+            data = file.read(HEADER)
+            letters, record = owner_of(Reader(data[:LOG_HEADER]))
+            if letters == b"PL" or is_with_votes:
+                data += file.read()
+        if letters == b"PR":
+            self.inode, self.places, self.under = None, None, 0
+            return self.whole(data) if is_with_votes else head_of(Reader(data), record)
+        begin = data[: self.at]
+        if not self.sum or len(begin) < self.at or sha256(begin) != self.sum.digest():
+            self.at, self.record, self.under, self.places = LOG_HEADER, record, 0, 0
+            self.before_last, self.sum = (0, None, 0), hashlib.sha256(data[:LOG_HEADER])
+        self.inode = inode
+        return self.follow(data[self.at :])
 
-    def whole(self, file, record):
-        """A whole record, of which what comes before this place of the file was read."""
-        return head_of(Reader(file.read(HEADER - LOG_HEADER)), record)
+    def whole(self, data):
+        """The record of these bytes, which are of a whole one."""
+        digest = sha256(data)
+        if digest != self.known[0]:
+            it = record_of(data)
+            under = sum(ballot == it.promised for ballot, _ in it.votes.values())
+            self.known = digest, it._replace(votes={}), under
+        _, record, self.under = self.known
+        return record
 
-    def note(self, record, tag, ballot):
-        """The log has an entry of this tag and ballot over this record."""
-        self.before_last = record.starts, record.promised, self.under
-        if tag != START and (record.promised is None or record.promised < ballot):
+    def note(self, starts, promised, tag, ballot):
+        """The log has an entry of this tag and ballot over a record with these starts and this
+        promised ballot."""
+        self.before_last = starts, promised, self.under
+        if tag != START and (promised is None or promised < ballot):
             self.under = 0
         self.under += tag == VOTE
 
@@ -255,9 +360,10 @@ class Head:
         try:
             self.record = with_entries(reader, self.record, self.at, self.note)
         except Damaged:
-            self.inode = None
+            self.inode = self.sum = None
             raise
         self.at += reader.at
+        self.sum.update(data[: reader.at])
         self.places = max([self.places, *(it + 1 for it in self.record.votes)])
         return self.kept(self.record)
 

@@ -42,8 +42,8 @@ def point_of(record):
 
 
 def point_of_head(head, record):
-    """How far the record has come that the head has just read. Of a whole record, whose votes it
-    does not read, no vote is known."""
+    """How far the record has come that the head has just read. Of a whole record whose votes it
+    has not read no vote is known."""
     return Point(record.starts, record.promised or NONE, head.under)
 
 

@@ -23,19 +23,20 @@ class Whole(Head):
     """The record of a file with its votes, again and again, and what it had promised when the node
     was started last, where that is known: `before`."""
 
+    has_votes = True
+
     def __init__(self, path):
         super().__init__(path)
         self.before = None
 
-    def whole(self, file, record):
-        file.seek(0)
+    def whole(self, data):
         self.before = None
-        return record_of(file.read())
+        return record_of(data)
 
-    def note(self, record, tag, ballot):
-        super().note(record, tag, ballot)
+    def note(self, starts, promised, tag, ballot):
+        super().note(starts, promised, tag, ballot)
         if tag == START:
-            self.before = record.promised
+            self.before = promised
 
     def kept(self, record):
         return record

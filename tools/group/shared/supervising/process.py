@@ -78,8 +78,8 @@ def slow_activity_of(pid):
 class Node:
     """The node's process, and when it may be started again."""
 
-    def __init__(self, words):
-        self.words = words
+    def __init__(self, words, head):
+        self.words, self.head = words, head
         self.is_new = words.new
         self.process, self.before, self.text = None, None, None
         self.ends = []  # can be read once the process has ended
@@ -142,7 +142,7 @@ class Node:
     def start_process(self, now):
         limit_trace(self.words)
         check_session(self.words)
-        self.before = promised_of(self.words, self.is_new)
+        self.before = promised_of(self.words, self.head, self.is_new)
         parent = os.getpid()
         self.open_console(wrote_before(self.words.file))
         command = self.command(self.seen())

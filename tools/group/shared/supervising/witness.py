@@ -24,10 +24,10 @@ import threading
 import time
 
 from ..files import Refused, say
-from ..record import Damaged, read_record
+from ..record import Damaged
 from ..seen import (
-    NONE, Point, Run, Table, is_behind, load_seen, point_before, point_of, point_of_head, runs_of,
-    seen_path, text_of_old, text_of_points, text_of_run, text_of_said, took_of,
+    NONE, Point, Run, Table, is_behind, load_seen, point_before, point_of_head, runs_of, seen_path,
+    text_of_old, text_of_points, text_of_run, text_of_said, took_of,
 )
 from ..whole import put_whole, sync_folder
 
@@ -53,13 +53,6 @@ def sync_record(path):
     finally:
         os.close(file)
     sync_folder(place)
-
-
-def whole_point_of(head):
-    """How far the record of a head has come now, with all its votes."""
-    record = head.read()
-    is_log = head.inode is not None
-    return point_of_head(head, record) if is_log else point_of(read_record(head.path))
 
 
 class Behind:
@@ -192,7 +185,7 @@ class Witness:
         """A run begins over the record as it is now. One that cannot be read is refused by those
         who start the node."""
         try:
-            base = whole_point_of(head)
+            base = point_of_head(head, head.read(is_all=True))
         except FileNotFoundError:
             if not is_new:
                 return
