@@ -23,7 +23,7 @@ from ..supervised import group_of
 
 # The votes of a record that is large; and how long a boot may take, and a node that was killed, in
 # seconds: three and a third of one are promised, and the rest is room for a machine that is busy.
-LARGE, BOOT, AGAIN = 60000, 6.0, 1.5
+LARGE, BOOT, AGAIN = 60000, 4.5, 1.5
 PROMISED = b"\x02" + number(1) + number(1, 1)
 
 
