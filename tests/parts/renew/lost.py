@@ -169,13 +169,31 @@ def has_new(home, *nodes):
     )
 
 
+def expect_put(what, home, paths, *nodes):
+    """Of a call that was interrupted a record is lost that was put there. The others, which wait,
+    are put there before that is refused: by them the group can go on."""
+    expect_refused(f"{what}, by --dry-run", home, LOST, *again(paths, "--dry-run"))
+    expect_end(f"lost: {what}", renew(*again(paths)), 1, LOST)
+    new = [bytes.fromhex(HI.format(it)) for it in nodes]
+    there = [bytes_of(paths[it - 1]) for it in nodes]
+    expect(f"lost: {what}: what waited is put there", there == new, files_of(home))
+    expect_refused(f"{what}, once more", home, LOST, *again(paths))
+
+
+def check_first_lost(folder):
+    """A call that was interrupted after the first of three records, which then is lost."""
+    home, paths = cut_at(folder, lambda home: has_new(home, 1))
+    os.unlink(paths[0])
+    expect_put("interrupted, and the only one is lost", home, paths, 2, 3)
+
+
 def check_begun(folder):
     """A call that was interrupted after two of three records."""
     home, paths = cut_at(folder, lambda home: has_new(home, 1, 2))
     grow(paths[0])
     expect_refused("interrupted, and a node has started", home, BEGUN, *again(paths))
     os.unlink(paths[1])
-    expect_refused("interrupted, and one is lost", home, LOST, *again(paths))
+    expect_put("interrupted, a node has started, and one is lost", home, paths, 3)
     shutil.rmtree(home)
     home, paths = cut_at(folder, lambda home: has_new(home, 1, 2))
     second = os.path.join(home, "record3.new-8")
@@ -225,6 +243,6 @@ def check_running(folder):
 
 
 LOST_CHECKS = (
-    check_lost, check_other_words, check_elsewhere, check_earlier, check_brought, check_begun,
-    check_running,
+    check_lost, check_other_words, check_elsewhere, check_earlier, check_brought, check_first_lost,
+    check_begun, check_running,
 )

@@ -4,7 +4,8 @@ A new record is written beside its place first. Once that was done for all, the 
 each retired record, and then each new record is renamed to its place. So where there is a list, a
 new record that is not in its place was not put there yet if it still stands beside it. Otherwise it
 was there, and is lost or was taken away. It is never made again: its node may have voted with it,
-and would forget that."""
+and would forget that. What still stands beside its place is put there all the same, so that the
+other nodes can continue."""
 
 import contextlib
 import hashlib
@@ -115,17 +116,20 @@ class Making:
                 )
         return any(it is not None for it in found.values())
 
-    def left(self):
-        """The new records that are not in their places yet. Refuses to make one that is lost."""
+    def left(self, is_put=False):
+        """The new records that are not in their places yet. Refuses to make one that is lost, once
+        those that wait beside their places are put there, if that is said."""
         free = {it.place for it in self.sources if not it.is_retired}
         left, there = [], []
         for it in self.targets:
             is_there = it.path not in free and it.is_there(self.old)
             (there if is_there else left).append(it)
-        if self.has_list():
-            for it in left:
-                self.check_waits(it)
-        elif left and there:
+        waiting = [it for it in left if it.waits()] if self.has_list() else left
+        if len(waiting) < len(left):
+            if is_put and not free:
+                self.put_waiting(waiting, there)
+            self.refuse_lost(next(it for it in left if it not in waiting))
+        if left and there and not self.has_list():
             self.refuse_unlisted(left[0], there[0])
         grown = next((it for it in there if it.has_grown()), None)
         if left and grown:
@@ -141,13 +145,19 @@ class Making:
             f"of session {self.new} into another one, by --to"
         )
 
-    def check_waits(self, it):
-        if not it.waits():
-            raise Refused(
-                f"{it.path} was put there for node {it.node} of session {self.new}, and is not "
-                "there now: it was taken to its machine, or it is lost. A record that is lost is "
-                f"never made again, since its node may have voted with it. {self.help_for(it)}"
-            )
+    def put_waiting(self, waiting, there):
+        """Puts these in their places, unless a majority has begun without them."""
+        has_begun = any(it.has_grown() for it in there)
+        if not has_begun or 2 * len(there) <= len(self.targets):
+            for it in waiting:
+                it.put()
+
+    def refuse_lost(self, it):
+        raise Refused(
+            f"{it.path} was put there for node {it.node} of session {self.new}, and is not there "
+            "now: it was taken to its machine, or it is lost. A record that is lost is never made "
+            f"again, since its node may have voted with it. {self.help_for(it)}"
+        )
 
     def refuse_unlisted(self, lacking, there):
         """Without a list nobody knows: an earlier version of this has kept none."""
@@ -168,7 +178,7 @@ class Making:
     def finish(self):
         """Makes what is left, once all records of the old session are retired. What is there stays
         as it is."""
-        left = self.left()
+        left = self.left(is_put=True)
         if not self.has_list():
             for it in left:
                 it.write()

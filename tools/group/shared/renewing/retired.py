@@ -133,7 +133,10 @@ class Source:
                     "copy, or the node began anew without its record"
                 )
         elif not self.is_retired and here is None:
-            raise Refused(f"{self.place} is missing: is it lost, or its disk not mounted?")
+            raise Refused(
+                f"{self.place} is missing: mount its disk, or, if it is lost, leave it out and name "
+                "the paths of all new records by --to"
+            )
         elif not self.is_retired:
             self.check_session(here)
 
