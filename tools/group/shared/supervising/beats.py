@@ -20,6 +20,9 @@ from .office import Beat
 MOST = 4096
 # After so many datagrams of a node of which none is signed, that is said.
 MANY = 10
+# How often it is said that a node is heard in another session; and for how long it has to be if that
+# session was renewed here, where the other supervisors follow by themselves. In seconds.
+MINUTE, FOLLOWS = 60.0, 10.0
 # pgroup beat SESSION NODE ROUND NODE AGE LED HEARS: a ballot of round 0 is none, LED is 0 or 1, and
 # HEARS has a digit for each node.
 BEAT = re.compile(
@@ -54,6 +57,27 @@ def short_in(data):
     return match and Said(int(match[2]), int(match[3]), int(match[9]), [match[1]])
 
 
+class Elsewhere:
+    """The nodes whose supervisors are heard in another session of the group."""
+
+    def __init__(self, earlier):
+        self.earlier, self.heard = earlier, {}
+
+    def note(self, node, session, now):
+        """A supervisor of this node was heard in this session."""
+        begun, last, said = self.heard.get((node, session), (now, now, None))
+        begun = now if now - last > MINUTE else begun
+        self.heard[node, session] = begun, now, said
+
+    def due(self, now):
+        """What is to be said now: each node with its session, at once and each minute."""
+        for key, (begun, last, said) in self.heard.items():
+            is_long = last - begun >= FOLLOWS or key[1] not in self.earlier
+            if is_long and (said is None or last >= said + MINUTE):
+                self.heard[key] = begun, last, now
+                yield key
+
+
 class Beats:
     """The socket of the supervisor of node `me`, at the address of its place in the list.
 
@@ -63,7 +87,8 @@ class Beats:
     nothing else to say, the heartbeat has a short form of its own, for those who say that they take
     it: supervisors up to 0.13.0 do not."""
 
-    def __init__(self, session, me, addresses, key=None):
+    def __init__(self, session, me, addresses, key=None, earlier=()):
+        """`earlier` are sessions that this one continues, as supervisors find by themselves."""
         self.session, self.me, self.addresses, self.key = session, me, addresses, key
         self.nodes = {it: node for node, it in enumerate(addresses, 1) if node != me}
         # The counter of the last datagram that was sent, and of the last that was taken of each
@@ -73,6 +98,7 @@ class Beats:
         # Of each node, how many datagrams came since the last that was signed; and of which ones
         # that was said.
         self.unsigned, self.strangers = collections.Counter(), set()
+        self.elsewhere = Elsewhere(earlier)
         # What is answered to a question of state: its bytes and source are given, and bytes or None
         # are returned.
         self.answer_to = lambda data, source: None
@@ -153,7 +179,12 @@ class Beats:
 
     def mine(self, it, node):
         """A heartbeat or what else was said, if it is of this session and node."""
-        return it if it and (it.session, it.node) == (self.session, node) else None
+        if it is None or it.node != node:
+            return None
+        if it.session != self.session:
+            self.elsewhere.note(node, it.session, time.monotonic())
+            return None
+        return it
 
     def plain(self, data, node):
         """Without a key. The heartbeat of one who has a key stands in what else is said."""
@@ -164,13 +195,14 @@ class Beats:
     def checked(self, data, node):
         """With a key. What comes once more counts for nothing, but for runs: that a record was so
         far stays true."""
-        short = self.mine(short_in(data), node)
-        said = short or self.mine(said_in(data), node)
-        is_so = is_signed_shortly if short else is_signed
+        short = short_in(data)
+        said, is_so = short or said_in(data), is_signed_shortly if short else is_signed
         if said is None or not is_so(data, self.key):
             self.unsigned[node] += 1
             return None, None
         self.unsigned[node] = 0
+        if self.mine(said, node) is None:
+            return None, None
         self.strangers.discard(node)
         self.note_took(took_of(said.lines))
         if said.counter <= self.took.get(node, 0):
