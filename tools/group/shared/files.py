@@ -5,6 +5,7 @@ import contextlib
 import errno
 import os
 import pwd
+import stat
 import subprocess
 import sys
 import time
@@ -94,6 +95,14 @@ def check_apart(words):
             raise Refused(f"--console {words.console} is the {what}, which would get the output")
 
 
+def check_no_pipes(words):
+    """None of the files that are read is a pipe, which would be waited for without a word."""
+    record, console = map(os.path.realpath, (words.record, words.console))
+    for path in (record, record + ".seen", console + ".synced"):
+        if os.path.exists(path) and stat.S_ISFIFO(os.stat(path).st_mode):
+            raise Refused(f"{path} is a pipe, and has to be a file: remove it")
+
+
 def check_session(words):
     """The session is the program's, so that nodes with different programs are of different groups.
     The program may have been changed since the node was started last."""
@@ -175,6 +184,7 @@ def check_files(words, head):
         check_folder(words.record, "record")
         check_folder(words.console, "console")
         check_apart(words)
+        check_no_pipes(words)
         if words.new:
             check_new(words)
         promised_of(words, head, words.new)

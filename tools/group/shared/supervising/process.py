@@ -29,6 +29,8 @@ LIBC = ctypes.CDLL(None)
 # The least and the greatest pause before a node is started again, and how long a node has to run
 # for the pause to be the least again, in seconds.
 PAUSE, LONGEST_PAUSE, STEADY = 0.1, 5.0, 2.0
+# After how many seconds at most it is said that a node does not move, however long --silent is.
+MINUTE = 60.0
 # What a node's log says of something that went wrong begins so.
 FAULTS = ("campaign refused", "no room for typed keys", "cannot send", "dropped", "trace lost")
 
@@ -250,7 +252,7 @@ class Node:
             if self.is_held:
                 say(self.words, "moves again")
             self.is_held = False
-        elif not self.is_held and now - self.moved >= self.words.silent:
+        elif not self.is_held and now - self.moved >= min(self.words.silent, MINUTE):
             self.is_held = True
             self.complain(f"does not move: {self.what_holds()}")
 
