@@ -64,9 +64,9 @@ def check_two_readers(_folder):
         data = log(1, *votes, *[PROMISED] * draw.randrange(2), version=version)
         data = whole_of(log(1, *votes)) if version == 2 and draw.random() < 0.4 else data
         for _ in range(draw.randrange(3)):
-            at = draw.randrange(9, len(data) + 1)
+            at, byte = draw.randrange(9, len(data) + 1), bytes([draw.choice((0, 1, 2, 3, 255))])
             data = draw.choice((data[:at], data[:at] + bytes(20), data + bytes(at % 90),
-                                data[:at] + bytes([draw.choice((0, 1, 2, 3, 255))]) + data[at + 1:]))
+                                data[:at] + byte + data[at + 1:]))
         found = answer_of(data)
         with mock.patch.object(reading, "vote_at", lambda *_: None):
             by_field = answer_of(data)

@@ -242,7 +242,7 @@ def with_plain_entries(reader, record, note):
         if entry is None:
             break
         place, ballot, value, end = entry
-        if ballot is None and starts == LAST_START or ballot and promised and ballot < promised:
+        if starts == LAST_START if ballot is None else promised and ballot < promised:
             break
         note(starts, promised, data[at], ballot)
         if ballot is None:
@@ -298,9 +298,9 @@ class Head:
     """The record of a file without its votes, again and again: of a log each time only what was
     appended is read, also if the log was written anew with the same beginning, as by each start of
     a node; and of a whole record its votes only if that is asked. So it takes no longer where there
-    are many. `under` counts the votes of a log under the ballot that it has promised. `before_last` has
-    the starts, the promised ballot and `under` before the log's last entry, and `places` how many
-    places there are up to the last one with a vote; None of a whole record."""
+    are many. `under` counts the votes of a log under the ballot that it has promised. `before_last`
+    has the starts, the promised ballot and `under` before the log's last entry, and `places` how
+    many places there are up to the last one with a vote; None of a whole record."""
 
     has_votes = False  # Whether a whole record is read with its votes each time.
 

@@ -134,8 +134,8 @@ class Source:
                 )
         elif not self.is_retired and here is None:
             raise Refused(
-                f"{self.place} is missing: mount its disk, or, if it is lost, leave it out and name "
-                "the paths of all new records by --to"
+                f"{self.place} is missing: mount its disk, or, if it is lost, leave it out and "
+                "name the paths of all new records by --to"
             )
         elif not self.is_retired:
             self.check_session(here)

@@ -20,8 +20,8 @@ from .office import Beat
 MOST = 4096
 # After so many datagrams of a node of which none is signed, that is said.
 MANY = 10
-# How often it is said that a node is heard in another session; and for how long it has to be if that
-# session was renewed here, where the other supervisors follow by themselves. In seconds.
+# How often it is said that a node is heard in another session; and for how long it has to be if
+# that session was renewed here, where the other supervisors follow by themselves. In seconds.
 MINUTE, FOLLOWS = 60.0, 10.0
 # pgroup beat SESSION NODE ROUND NODE AGE LED HEARS: a ballot of round 0 is none, LED is 0 or 1, and
 # HEARS has a digit for each node.
