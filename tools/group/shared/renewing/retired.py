@@ -142,7 +142,11 @@ class Source:
 
     def check_session(self, here):
         if here != self.session:
-            raise Refused(f"{self.place} is of session {here}, and not of session {self.session}")
+            raise Refused(
+                f"{self.place} is of session {here}, and not of session {self.session}. If its "
+                f"record of session {self.session} is lost, leave it out and name the paths of all "
+                "new records by --to"
+            )
 
     def path(self):
         """Where the record is now."""
