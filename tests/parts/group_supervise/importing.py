@@ -17,8 +17,8 @@ class Signals:
     @staticmethod
     def find_spec(name, *_):
         if name == "shared.record":
-            signal.raise_signal(signal.SIGINT)
-            signal.raise_signal(signal.SIGINT)
+            signal.raise_signal(signal.SIGINT)  # It may have no meaning here.
+            signal.raise_signal(signal.SIGTERM)
 
 
 sys.meta_path.insert(0, Signals)
