@@ -84,7 +84,7 @@ class Node:
         self.words, self.head = words, head
         self.is_new = words.new
         self.process, self.before, self.text = None, None, None
-        self.ends = []  # can be read once the process has ended
+        self.watched = []  # can be read once the process has ended
         self.console = Console(words.console, words.console_limit)
         self.activity, self.speech = None, None
         self.is_held = False
@@ -154,7 +154,7 @@ class Node:
             env={**os.environ, "PGROUP_LOG": "1", "PGROUP_COUNTS": "1"},
             preexec_fn=lambda: end_with(parent),
         ))
-        self.speech, self.ends = speech, end_of_process(self.process.pid)
+        self.speech, self.watched = speech, end_of_process(self.process.pid)
         self.started = self.moved = now
         self.is_held = False
         self.end, self.text = None, None
@@ -223,9 +223,9 @@ class Node:
         """There is no process any more."""
         self.process, self.front, self.waiting = None, None, None
         self.speech.close()
-        for it in self.ends:
+        for it in self.watched:
             os.close(it)
-        self.ends = []
+        self.watched = []
 
     def note_end(self, status, now):
         self.leave()
