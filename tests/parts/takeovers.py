@@ -82,7 +82,7 @@ class Takeovers:
         _, ballot, leader = self.leads()
         down = self.next_after(leader) if kind is BOTH else None
         if down:
-            down.kill()
+            down.end()
             time.sleep(self.silent + 0.5)  # No supervisor hears it any more.
         asked, begun = len(ASKED.findall(self.said())), time.time()
         self.hurt(kind, leader)
@@ -99,7 +99,7 @@ class Takeovers:
             leader.process.wait()
             leader.begin()
         elif kind is LOST:
-            leader.kill()
+            leader.end()  # The node ends with it. Where that can be seen it is not waited for.
         else:
             send_signal(leader.node(), signal.SIGKILL)
 
