@@ -99,7 +99,7 @@ class Takeovers:
             leader.process.wait()
             leader.begin()
         elif kind is LOST:
-            leader.end()  # The node ends with it. Where that can be seen it is not waited for.
+            leader.end()  # The node ends with it.
         else:
             send_signal(leader.node(), signal.SIGKILL)
 
