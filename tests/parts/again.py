@@ -8,11 +8,12 @@ anew."""
 import collections
 import os
 import shutil
+import signal
 import subprocess
 import tempfile
 
 from .checks import main_of_checks
-from .program import PROGRAM, TESTS, Broken, end_on_signals
+from .program import PROGRAM, SECONDS, TESTS, Broken, end_on_signals
 
 # The descriptors of tests/parts/again.c.
 RUNS, ANSWERS = 198, 199
@@ -77,6 +78,13 @@ class Files:
                 os.ftruncate(handle, 0)
         return texts
 
+    def ran(self, words, seconds, status, has_refused):
+        """What a run has come to. SIGALRM ends one that takes too long."""
+        said = self.take()
+        if status == -signal.SIGALRM:
+            raise Broken(f"it has not ended in {seconds} seconds: {str(words)[:300]}")
+        return Ran(status, *said, has_refused)
+
     def actions(self):
         return [(os.POSIX_SPAWN_DUP2, handle, number) for number, handle in enumerate(self.handles)]
 
@@ -87,21 +95,17 @@ class Plain:
     def __init__(self, room):
         self.files = Files(room)
 
-    def run(self, words, stdin=b"", first=0, last=0):
+    def run(self, words, stdin=b"", first=0, last=0, seconds=SECONDS):
         assert first == last == 0
         self.files.set_input(stdin)
         os.lseek(self.files.handles[0], 0, os.SEEK_SET)
-        child = os.posix_spawn(
-            PROGRAM, [PROGRAM, *words], os.environ, file_actions=self.files.actions()
-        )
-        return Ran(status_of(os.waitpid(child, 0)[1]), *self.files.take(), False)
+        streams = dict(zip(("stdin", "stdout", "stderr"), self.files.handles))
+        status = subprocess.call([PROGRAM, *words], preexec_fn=lambda: signal.alarm(seconds),
+                                 **streams)
+        return self.files.ran(words, seconds, status, False)
 
     def end(self):
         pass
-
-
-def status_of(ended):
-    return os.WEXITSTATUS(ended) if os.WIFEXITED(ended) else -os.WTERMSIG(ended)
 
 
 class Again:
@@ -109,7 +113,7 @@ class Again:
 
     def __init__(self, room, library):
         self.room, self.library = room, library
-        self.servers = {}
+        self.servers, self.runs = {}, 0
 
     def server(self, count):
         """Returns the process for runs with `count` words, its streams, and the pipes to it and
@@ -128,16 +132,18 @@ class Again:
             self.servers[count] = child, files, to, back
         return self.servers[count]
 
-    def run(self, words, stdin=b"", first=0, last=0):
+    def run(self, words, stdin=b"", first=0, last=0, seconds=SECONDS):
         """Runs the program. Its requests for memory from `first` to `last`, counted from 1 on, are
         refused."""
         _, files, to, back = self.server(len(words))
         files.set_input(stdin)
-        os.write(to, b"\0".join([b"%d %d" % (first, last), *map(os.fsencode, words), b""]))
+        self.runs += 1
+        head = b"%d %d %d %d" % (self.runs, seconds, first, last)
+        os.write(to, b"\0".join([head, *map(os.fsencode, words), b""]))
         answer = os.read(back, 64).split()
-        if len(answer) != 2:
-            raise Broken("the library of tests/parts/again.c has ended")
-        return Ran(int(answer[0]), *files.take(), answer[1] == b"1")
+        if len(answer) != 3 or int(answer[0]) != self.runs:
+            raise Broken("the library of tests/parts/again.c has ended, or answers another run")
+        return files.ran(words, seconds, int(answer[1]), answer[2] == b"1")
 
     def end(self):
         for child, files, to, back in self.servers.values():

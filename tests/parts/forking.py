@@ -10,7 +10,8 @@ as Python ends each script, since Python itself ends it. Only the depth of its c
 
 A case comes as a message of the socket: the numbers of the streams that are open, such as 012 or
 02, and the script's words, with a zero byte before each; and the files of these streams. The
-answers are the number of the process, and the status that `waitpid` gives.
+answers are `begun` with the number of the process, and `ended` with its status, or below 0 with the
+signal that has ended it. The number is no other process's until the next case comes.
 """
 START = dict(globals())
 
@@ -38,8 +39,11 @@ def files_in(more):
 def await_case(asked):
     """Forks for each case. Returns the case, in the fork alone: the open streams, with their files,
     and the words."""
+    process = None
     while True:
         data, more, *_ = asked.recvmsg(1 << 17, SPACE)
+        if process:
+            os.waitpid(process, 0)
         if not data:
             os._exit(0)
         numbers, *words = data.split(b"\0")
@@ -49,8 +53,10 @@ def await_case(asked):
             return dict(zip(map(int, numbers.decode()), files)), [os.fsdecode(it) for it in words]
         for it in files:
             os.close(it)
-        asked.send(b"%d" % process)
-        asked.send(b"%d" % os.waitpid(process, 0)[1])
+        asked.send(b"begun %d" % process)
+        end = os.waitid(os.P_PID, process, os.WEXITED | os.WNOWAIT)
+        is_exit = end.si_code == os.CLD_EXITED
+        asked.send(b"ended %d" % (end.si_status if is_exit else -end.si_status))
 
 
 def take(files):

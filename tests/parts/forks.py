@@ -49,7 +49,7 @@ class Forks:
         self.around = []
         if user is not None:
             self.around = ["setpriv", f"--reuid={user}", f"--regid={user}", "--clear-groups"]
-        self.asked = self.process = None
+        self.asked = self.process = self.case = None
 
     def run(self, words, seconds=60, stdout=PIPE, stderr=PIPE):
         """Runs a case without input to its end, which has to come within these seconds. Returns
@@ -78,23 +78,36 @@ class Forks:
                     it = files.enter_context(open(pipe[1], "wb", 0))
                 mouths.append(mouths[0] if it == STDOUT else it)
             none = files.enter_context(open(os.devnull, "rb"))
-            process = self.begin(words, none, *mouths)
-            for it in mouths:
-                if it not in (stdout, stderr):
-                    it.close()
-            status, said = self.finish(process, ears.values(), seconds)
+            with self.dropped_on_fault():
+                self.begin(words, none, *mouths)
+                for it in mouths:
+                    if it not in (stdout, stderr):
+                        it.close()
+                said = read_all(ears.values(), time.monotonic() + seconds)
+                status = self.heard("ended", seconds)
         said = {name: said[it] for name, it in ears.items()}
         return subprocess.CompletedProcess(words, status, **said)
 
+    @contextlib.contextmanager
+    def dropped_on_fault(self):
+        """After a case that does not end, or that nobody waits for any more, the next one gets
+        another Python: nothing is left that could be taken for an answer of that one."""
+        try:
+            yield
+        except BaseException:
+            self.drop()
+            raise
+
     def load(self):
-        self.asked, its = socket.socketpair(socket.AF_UNIX, socket.SOCK_SEQPACKET)
+        asked, its = socket.socketpair(socket.AF_UNIX, socket.SOCK_SEQPACKET)
         with its:
             command = [*self.around, "/usr/bin/env", "python3", FORKING, self.path]
             self.process = subprocess.Popen(command, stdin=its, stdout=subprocess.DEVNULL,
                                             **self.given)
+        self.asked = asked
 
     def begin(self, words, *streams):
-        """Begins a case with these files as its streams. Returns its process."""
+        """Begins a case with these files as its streams."""
         if self.asked is None:
             self.load()
         files = {it: file for it, file in enumerate(streams) if file}
@@ -103,30 +116,33 @@ class Forks:
         rights = array.array("i", [it.fileno() for it in files.values()])
         with contextlib.suppress(ConnectionError):
             self.asked.sendmsg([data], [(socket.SOL_SOCKET, socket.SCM_RIGHTS, rights)])
-        return self.heard(60)
+        self.case = None
+        self.case = self.heard("begun", 60)
 
-    def heard(self, seconds):
-        """A number that it answers."""
+    def heard(self, what, seconds):
+        """The number that it answers behind this word."""
         self.asked.settimeout(seconds)
         with contextlib.suppress(ConnectionError):
-            data = self.asked.recv(64)
-            if data:
-                return int(data)
+            word, _, number = self.asked.recv(64).decode().partition(" ")
+            if word == what:
+                return int(number)
         raise Broken(f"{self.path} cannot be loaded, or not be forked")
 
-    def finish(self, process, pipes, seconds):
-        """Waits for the end of a case. Returns its status, as subprocess has it, and what comes
-        from each pipe."""
-        try:
-            data = read_all(pipes, time.monotonic() + seconds)
-            status = self.heard(seconds)
-        except BaseException:
-            with contextlib.suppress(ProcessLookupError):
-                os.kill(process, signal.SIGKILL)
-            raise
-        return -os.WTERMSIG(status) if os.WIFSIGNALED(status) else os.WEXITSTATUS(status), data
+    def drop(self):
+        """Ends the Python that is forked, and its case. That Python waits for the end of the case,
+        and keeps its number until the next one, so that no other process gets the signal."""
+        if self.asked is None or self.process.poll() is not None:
+            pass
+        elif self.case is None:
+            self.process.kill()
+        else:
+            os.kill(self.case, signal.SIGKILL)
+        self.close()
 
     def close(self):
         if self.asked:
-            self.asked.close()
+            with contextlib.suppress(OSError):
+                self.asked.shutdown(socket.SHUT_WR)
             self.process.wait()
+            self.asked.close()
+            self.asked = self.process = self.case = None
