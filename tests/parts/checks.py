@@ -11,6 +11,8 @@ import os
 import random
 import shutil
 import signal
+import socket
+import subprocess
 import sys
 import tempfile
 import traceback
@@ -18,6 +20,7 @@ import unittest
 
 from .program import Broken, is_help, provide
 
+TIMEOUTS = TimeoutError, socket.timeout, subprocess.TimeoutExpired
 # The names of the checks that have passed.
 NOTED = []
 
@@ -80,6 +83,8 @@ def tell(name, error):
     kind, fault, _ = error
     is_check = issubclass(kind, AssertionError)
     text = str(fault) if is_check else "".join(traceback.format_exception(*error))
+    if issubclass(kind, TIMEOUTS):
+        text = f"a limit of time: {fault}\n{text}"
     print(f"failed: {name}: {text}", flush=True)
 
 

@@ -340,7 +340,7 @@ class Group:
                 time.sleep(0.1)
             self.stuck += 1
             remedy(self.random.choice(self.nodes))
-        raise Broken(f"at the end: {fault}")
+        raise Broken(f"it did not come in {times} times {seconds:.0f} seconds: at the end {fault}")
 
     def places(self):
         return len(values_of([it.record for it in self.nodes]))

@@ -45,7 +45,7 @@ class Terminal:
         end = time.monotonic() + 60
         while not is_so():
             if time.monotonic() > end:
-                raise Broken(fault())
+                raise Broken(f"it did not come in 60 seconds: {fault()}")
             self.look()
 
     def await_shown(self, text):

@@ -167,7 +167,7 @@ def status_of(process):
     try:
         return process.wait(LONGEST)
     except subprocess.TimeoutExpired:
-        raise Broken(f"a node does not end: {' '.join(process.args)}")
+        raise Broken(f"it has not ended in {LONGEST} seconds: {' '.join(process.args)}")
     finally:
         process.kill()
         process.wait()
@@ -297,7 +297,8 @@ class Playing:
                     return True
             if has_ended:
                 return False
-        raise Broken(f"{self.case.name}: a message to node {number} did not come")
+        what = f"{self.case.name}: a message to node {number}"
+        raise Broken(f"it did not come in {LONGEST} seconds: {what}")
 
     def tell(self, message, answer):
         """Sends a message, and waits for its answer. Returns false if the node has ended before it

@@ -118,7 +118,8 @@ class Play:
         end = time.monotonic() + 60
         while not is_so():
             if time.monotonic() > end:
-                raise Broken(f"{what}: {self.session.said}, shown {self.shown}")
+                known = f"{self.session.said}, shown {self.shown}"
+                raise Broken(f"it did not come in 60 seconds: {what}: {known}")
             time.sleep(0.005)
             CLOCK.seconds += 0.05
             self.step()

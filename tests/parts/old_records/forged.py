@@ -7,7 +7,7 @@ import socket
 import time
 
 from shared.files import Refused
-from shared.nodes import free_addresses
+from shared.nodes import free_addresses, is_empty_at
 from shared.supervising.beats import Beats, text_of_beat
 from shared.supervising.key import key_of, make_key, signed
 from shared.supervising.office import Beat
@@ -75,7 +75,8 @@ class Pair:
     def heard(self, count=1):
         """What the first one hears of so many datagrams that have come."""
         found, end = [], time.monotonic() + 0.05 * count
-        while len(found) < count and time.monotonic() < end:
+        may_come = lambda: time.monotonic() < end or not is_empty_at(self.addresses[0][1])
+        while len(found) < count and may_come():
             found += list(self.one.hear_until(time.monotonic() + 0.05))
         return found
 
@@ -142,9 +143,11 @@ def check_counters():
         is_so = [beat for _, beat, _ in found] == [None] and pair.one.is_behind
         expect("a counter that is too small is noticed", is_so, found)
         pair.one.send(QUIET._replace(node=1), pair.one.took_lines())
-        end = time.monotonic() + 20
-        while pair.two.counter < 1 << 62 and time.monotonic() < end:
+        def has_grown():
             list(pair.two.hear_until(time.monotonic() + 0.05))
+            return pair.two.counter >= 1 << 62
+
+        await_that(has_grown, "the counter grows")
         pair.two.send(QUIET)
         beats = [beat for _, beat, _ in pair.heard()]
         expect("and goes on above what was taken last", beats == [QUIET], beats)
@@ -236,7 +239,8 @@ def check_forged(folder):
         names = "".join(str(it.number) for it in others)
         is_led = lambda: re.search(rf"that node [{names}] leads", others[0].said())
         is_so = forge(group, lost, 60, is_led)
-        expect("with a key a forged leader stops no election", is_so, others[0].said())
+        what = "with a key a forged leader stops no election, which comes within 60 seconds"
+        expect(what, is_so, others[0].said())
         text = f"takes no heartbeats of node {number}: they are not signed with the key in {path}"
         await_that(lambda: text in others[0].said(), "that it is not signed is said")
         passed("and it is said whose heartbeats are not taken")

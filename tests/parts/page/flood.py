@@ -88,7 +88,7 @@ def check_slow(page, visitor):
         time.sleep(1)
     for it in sockets.values():
         it.close()
-    expect(f"{len(slow)} slow connections are ended", not left, left)
+    expect(f"{len(slow)} slow connections are ended within {SECONDS:.0f} seconds", not left, left)
 
 
 def check_unread(page, visitor):
