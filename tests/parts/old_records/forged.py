@@ -20,6 +20,7 @@ from ..supervised import group_of
 from .copies import supervised
 
 KEY, OTHER = b"k" * 32, b"j" * 32
+NOBODY = 65534
 QUIET = Beat(7, 2, None, 5.0, False, frozenset((1, 2)))
 
 
@@ -48,9 +49,20 @@ def check_keys(path):
         os.chmod(path, mode)
         expect_refused(f"a key with the mode {mode:o}", lambda: key_of(path), f"chmod 600 {path}")
     os.chmod(path, 0o600)
+    check_owner(path, made)
     expect_refused("a key that is written over", lambda: make_key(path), "leave --new-beats-key")
     file_with(os.path.dirname(path), "key", KEY[1:] + b"\n")
     expect_refused("a key of 31 bytes", lambda: key_of(path), "has 31 bytes")
+
+
+def check_owner(path, made):
+    """Root takes another user's key, as OPERATE's cron lines do."""
+    if os.geteuid() != 0:
+        print("not tried: another user's key, for want of root", flush=True)
+        return
+    os.chown(path, NOBODY, NOBODY)
+    expect("root takes another user's key", key_of(path) == made)
+    os.chown(path, 0, 0)
 
 
 def expect_refused(what, call, text):
