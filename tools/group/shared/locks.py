@@ -32,10 +32,11 @@ def path_of(record):
 
 def match_owner(file, record):
     """Gives a new lock the owner and the rights of its record, as far as this user may: where root
-    was first, as in `renew`, the node has to open it too."""
+    was first, as in `renew`, the node has to open it too. Others get no right: whoever can read it
+    can hold it."""
     with contextlib.suppress(OSError):
         then = os.stat(record)
-        os.fchmod(file, stat.S_IMODE(then.st_mode))
+        os.fchmod(file, stat.S_IMODE(then.st_mode) & 0o770)
         os.fchown(file, then.st_uid, then.st_gid)
 
 
@@ -47,7 +48,7 @@ def opened(record):
     with contextlib.suppress(FileNotFoundError):
         return os.open(path, flags)
     try:
-        file = os.open(path, flags | os.O_CREAT | os.O_EXCL, 0o666)
+        file = os.open(path, flags | os.O_CREAT | os.O_EXCL, 0o600)
     except FileExistsError:
         return os.open(path, flags)  # Another process was quicker.
     match_owner(file, record)

@@ -1,5 +1,5 @@
-"""Small files that are put in their places whole: after a crash there is the old one or the new
-one."""
+"""Small files that are put in their places whole, for their owner alone: after a crash there is the
+old one or the new one."""
 
 import os
 
@@ -31,7 +31,7 @@ def put_whole(path, data):
 
 
 def open_here(path, flags):
-    return os.open(path, flags | os.O_NOFOLLOW, 0o666)
+    return os.open(path, flags | os.O_NOFOLLOW, 0o600)
 
 
 def remove_whole(path):

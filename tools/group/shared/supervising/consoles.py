@@ -54,11 +54,11 @@ def boot_of_machine():
 
 
 def open_console(path):
-    """Opens the file that gets the output, at its end. A pipe that nobody reads is no fault that
-    stays."""
+    """Opens the file that gets the output, at its end. A new one is for its owner alone. A pipe
+    that nobody reads is no fault that stays."""
     flags = os.O_WRONLY | os.O_APPEND | os.O_CREAT | os.O_NOCTTY | os.O_NONBLOCK | os.O_CLOEXEC
     try:
-        console = os.open(path, flags, 0o666)
+        console = os.open(path, flags, 0o600)
     except OSError as fault:
         if fault.errno == errno.ENXIO:
             raise BlockingIOError(errno.EAGAIN, "nobody reads this console", path)
