@@ -4,6 +4,7 @@ keys, by everybody who shows the console, and again whenever it is shown anew.""
 
 import codecs
 
+from .plain import plain
 from .terminal import Pieces
 
 # The signs of the sequences that move the cursor, erase, or change how characters look.
@@ -27,6 +28,10 @@ def is_harmless(piece):
     return kind == "text" or piece[0] in CONTROLS
 
 
+def shown_of(piece):
+    return plain(piece[0]) if piece.lastgroup == "text" else piece[0]
+
+
 class Harmless:
     """Passes bytes on to a terminal, of UTF-8 or of single bytes."""
 
@@ -37,7 +42,6 @@ class Harmless:
 
     def passed(self, data):
         pieces = self.pieces.of(self.decoder.decode(data))
-        text = "".join(it[0] for it in pieces if is_harmless(it))
         # A byte that is no UTF-8 would be a control of 8 bits to some terminals.
-        text = "".join(it if not "\udc80" <= it <= "\udc9f" else "?" for it in text)
-        return text.encode(self.name, "surrogateescape")
+        text = "".join(shown_of(it) for it in pieces if is_harmless(it))
+        return text.encode(self.name)

@@ -13,6 +13,7 @@ import os
 import stat
 
 from .files import Refused
+from .plain import plain
 from .watch import words_of_process
 
 # How many characters of a process's words are shown.
@@ -96,8 +97,7 @@ def is_at_file(pid, device, wanted):
 
 
 def text_of_process(pid):
-    words = " ".join(it for it in words_of_process(pid) if it)
-    shown = "".join(it if it.isprintable() else "?" for it in words)
+    shown = plain(" ".join(it for it in words_of_process(pid) if it))
     more = ".." if len(shown) > SHOWN else ""
     return f"process {pid} ({shown[:SHOWN]}{more})" if shown else f"process {pid}"
 

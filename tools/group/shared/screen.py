@@ -5,6 +5,7 @@ import time
 
 from .ends import with_end
 from .frozen import told_of
+from .plain import plain
 from .seen import text_of_old
 from .watch import Group, line_of
 
@@ -52,7 +53,7 @@ def draw(window, group):
     for row, line in enumerate(lines[:height]):
         try:
             # Nothing fits behind the last column of the last row.
-            window.addnstr(row, 0, line, width - 1, curses.A_BOLD if row == 0 else 0)
+            window.addnstr(row, 0, plain(line), width - 1, curses.A_BOLD if row == 0 else 0)
         except curses.error:
             pass  # The window has just become smaller.
     # All of it is written anew. Of a terminal that was smaller for a moment curses may never hear,

@@ -7,6 +7,8 @@ import re
 import signal
 import socket
 
+from .plain import filter_streams
+
 
 def address_of(text):
     """An address `a.b.c.d:port` as a pair."""
@@ -95,8 +97,9 @@ def put_out(text, path=None):
 
 
 def run_script(main):
-    """The status of a script's `main`. Ctrl-C, and a reader of its output that has gone, end it as
-    they end others."""
+    """The status of a script's `main`. What it prints is plain. Ctrl-C, and a reader of its output
+    that has gone, end it as they end others."""
+    filter_streams()
     try:
         return main()
     except KeyboardInterrupt:

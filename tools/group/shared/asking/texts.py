@@ -3,6 +3,7 @@
 import collections
 import re
 
+from ..plain import plain
 from ..record import Ballot
 
 ASK = b"pgroup ask "
@@ -52,9 +53,9 @@ def text_of(value):
     return f"{value:.3f}" if isinstance(value, float) else str(value)
 
 
-def plain(text):
-    """A text of a fault as it may stand in a line."""
-    return "".join(it if " " <= it <= "~" else "?" for it in text)[:MOST_TOLD]
+def told(text):
+    """A text as it may stand in an answer, and as it is taken from one."""
+    return plain(text).encode("ascii", "replace").decode("ascii")[:MOST_TOLD]
 
 
 def answer(session, nonce, it, sign=None):
@@ -68,11 +69,11 @@ def answer(session, nonce, it, sign=None):
         *(f"heard {node} {text_of(ago)} {text_of(promised)}"
           for node, (ago, promised) in sorted((it.heard or {}).items())),
         f"console {text_of(it.console)}",
-        *([f"end {plain(it.end)}".rstrip()] if it.end is not None else []),
+        *([f"end {told(it.end)}".rstrip()] if it.end is not None else []),
         f"sums {text_of(it.program)} {text_of(it.code)}",
-        *([f"version {plain(it.version)[:40]}"] if it.version else []),
+        *([f"version {told(it.version)[:40]}"] if it.version else []),
         f"now {text_of(it.now)}",
-        *([f"fault {it.fault[0]:.3f} {plain(it.fault[1])}"] if it.fault else []),
+        *([f"fault {it.fault[0]:.3f} {told(it.fault[1])}"] if it.fault else []),
     ]
     room = TIMES * QUESTION - (len(sign(b"")) if sign else 0)
     data = f"pgroup state {session} {it.node} {nonce}\n".encode("ascii")
@@ -125,9 +126,9 @@ def fields_of(line):
         values = found.groups() if found else ()
         return {name: value_of(name, text) for name, text in zip(names.split(), values)}
     if word in ("end", "version"):
-        return {word: rest}
+        return {word: told(rest)}
     fault = FAULT.fullmatch(line)
-    return {"fault": (float(fault[1]), fault[2])} if fault else {}
+    return {"fault": (float(fault[1]), told(fault[2]))} if fault else {}
 
 
 def state_in(data):

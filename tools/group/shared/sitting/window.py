@@ -6,6 +6,7 @@ import os
 import textwrap
 import time
 
+from ..plain import plain
 from ..terminal import BOLD, INVERSE, UNDER
 
 # How long a sentence is shown over the last lines, and how long if others wait for their turn, in
@@ -98,7 +99,7 @@ class Window:
             room = height - len(said)
             first = min(max(0, it.y - room + 1), rows - room)
             lines = lines[first : first + room]
-        for text, style in said:
+        for text, style in ((plain(text), style) for text, style in said):
             lines.append(f"{style}{text[: width - 1]}\x1b[0m\x1b[K" if text else "\x1b[K")
         return lines + ["\x1b[K"] * (height - len(lines)), first
 
