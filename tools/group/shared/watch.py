@@ -9,6 +9,7 @@ from .consoles import View
 from .ends import Log
 from .frozen import end_in_original
 from .nodes import stat_of
+from .ports import is_local, is_owners, user_of, users_at
 from .record import (
     PLACES, START, Damaged, Head, places_of, read_record, record_of, text_of_ballot,
 )
@@ -108,10 +109,19 @@ def record_word(words):
     return plain[4] if len(plain) > 4 else None
 
 
+def nodes_at(address):
+    """The processes of the nodes whose keys come to this address, each with its words. On this
+    machine that is the one who has the port, whoever else says so."""
+    is_here, users = is_local(address), users_at(address)
+    for pid, words in node_processes().items():
+        if has_keys_at(words, address) and not (is_here and user_of(pid) not in users):
+            yield pid, words
+
+
 def records_at(address):
     """The records of the nodes of this machine whose keys come to this address."""
-    for pid, words in node_processes().items():
-        word = record_word(words) if has_keys_at(words, address) else None
+    for pid, words in nodes_at(address):
+        word = record_word(words)
         if word:
             try:
                 yield read_record(os.path.join(f"/proc/{pid}/cwd", word))
@@ -147,7 +157,7 @@ def code_of(pid, words):
 def node_at(path, processes):
     """The process of the node of this record, with its words, or None twice."""
     for pid, words in processes.items():
-        if any(is_at(path, pid, it) for it in words):
+        if any(is_at(path, pid, it) for it in words) and is_owners(pid, path):
             return pid, words
     return None, None
 

@@ -3,19 +3,11 @@ one."""
 
 import socket
 
+from ..ports import is_local
+
 # How many sockets are kept, since a refusal may come late.
 KEPT = 32
 SENT, REFUSED, UNSENT = "sent", "refused", "unsent"
-
-
-def is_local(address):
-    """Whether an address is this machine's."""
-    with socket.socket(socket.AF_INET, socket.SOCK_DGRAM) as probe:
-        try:
-            probe.bind((address[0], 0))
-        except OSError:
-            return False
-    return True
 
 
 def is_refused(it):

@@ -7,10 +7,10 @@ import time
 from argparse import ArgumentTypeError
 
 from ..nodes import dropped_at, is_empty_at, stat_of
+from ..ports import is_local, is_owners, owner_of, users_at
 from ..synced import first_kept
 from ..watch import file_of, has_keys_at, link_of, plain_words, record_word
 from ..words import address_of
-from .post import is_local
 from .votes import Votes
 
 SAID = re.compile(r"((?:\d+\.){3}\d+:\d+),([^,]+)(?:,(.+))?")
@@ -67,6 +67,8 @@ class Seat:
 
     def is_of(self, pid, words):
         """Whether a process with these words after `node` is this node."""
+        if not is_owners(pid, self.votes.path if self.votes else self.console):
+            return False
         if self.votes is None or self.are_keys_said:
             return has_keys_at(words, self.keys)
         path = self.path_of(pid, words)
@@ -138,14 +140,18 @@ class Seat:
         return self.refused_at is not None and time.monotonic() - self.refused_at < seconds
 
     def has_port(self):
-        """Whether somebody has the port of the keys, as far as this machine can tell. The node may
-        be in another network namespace."""
+        """Whether the node has the port of the keys, as far as this machine can tell. The node may
+        be in another network namespace. If its process is not seen, the port is the node's if it is
+        that of the console's owner."""
         if self.process:
             try:
                 return dropped_at(self.keys[1], self.sockets()) is not None
             except OSError:
                 return False  # It has just ended.
-        return not is_local(self.keys) or dropped_at(self.keys[1]) is not None
+        if not is_local(self.keys):
+            return True
+        users, owner = users_at(self.keys), owner_of(self.console)
+        return bool(users) and (owner is None or users == {owner})
 
     def sockets(self):
         return f"/proc/{self.process[0]}/net/udp"
