@@ -4,6 +4,8 @@ import select
 import socket
 import time
 
+from shared.paging.server import CONNECTIONS, STREAMS, WATCHED
+
 from ..checks import expect, passed
 from ..program import Broken
 from .hostile import Maker
@@ -49,6 +51,46 @@ def check_connections(page, visitor):
 
     visitor.leave()
     await_all(is_free, "a new connection is taken again")
+
+
+def held(page, data, count):
+    """So many connections that have asked for this, and the status of each. They stay open."""
+    sockets = [socket.create_connection(("127.0.0.1", page.port), SECONDS) for _ in range(count)]
+    statuses = []
+    for it in sockets:
+        it.sendall(data)
+        statuses.append(it.recv(12)[9:])
+    return sockets, statuses
+
+
+def check_strangers(page, visitor):
+    """Who comes while strangers hold all connections gets the place of one of them."""
+    make = Maker(page, visitor, visitor)
+    sockets, statuses = held(page, make.get("/page.css", Cookie=None), CONNECTIONS)
+    try:
+        expect("strangers hold all connections", statuses.count(b"200") >= CONNECTIONS - 20,
+               statuses)
+        more, statuses = held(page, make.get("/", Cookie=None), 1)
+        sockets += more
+        expect("who comes then is answered", statuses == [b"200"], statuses)
+        status, _ = visitor.ask("/go", {"at": 99})
+        expect("and so is who types", status == 400, status)
+    finally:
+        for it in sockets:
+            it.close()
+
+
+def check_streams(page, visitor, watcher):
+    """Those who watch take no stream of those who type."""
+    make = Maker(page, visitor, watcher)
+    sockets, statuses = held(page, make.get(Cookie=make.watching), STREAMS)
+    more, typing = held(page, make.get(), 1)
+    for it in sockets + more:
+        it.close()
+    count = statuses.count(b"200")
+    is_so = WATCHED // 2 < count <= WATCHED and set(statuses) == {b"200", b"503"}
+    expect("of many who watch only some listen", is_so, statuses)
+    expect("and who types does", typing == [b"200"], typing)
 
 
 def await_all(is_so, what):

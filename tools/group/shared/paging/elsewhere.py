@@ -9,6 +9,7 @@ from ..asking.view import View
 from ..continued import follow_words
 from ..ends import with_end
 from ..files import Refused
+from ..ports import owner_of, user_of
 from ..record import text_of_ballot
 from ..sitting.seat import Seat
 from ..supervising.key import key_of
@@ -45,9 +46,12 @@ def asked_of(path):
 
 def seats_of(asked):
     """The nodes of a session on this machine: that of the list, if its record is here, and those
-    that run."""
+    that run. Those of another user count only if no record says whose they are."""
     found = [asked.record] if asked.record and os.path.exists(asked.record) else []
+    users = {0, os.geteuid(), *map(owner_of, found)}
     for pid, words in sorted(node_processes().items()):
+        if (found or os.geteuid()) and user_of(pid) not in users:
+            continue
         plain, record = plain_words(words), record_word(words)
         folder = link_of(f"/proc/{pid}/cwd")
         if record and plain[3] == str(asked.session) and (folder or os.path.isabs(record)):

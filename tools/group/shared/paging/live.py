@@ -9,7 +9,7 @@ from ..words import ask, text_of_address
 from ..watch import refusals_at
 from .guard import TYPES, Refused
 from .marks import now
-from .server import HEADERS, STREAMS, Handler
+from .server import HEADERS, STREAMS, WATCHED, Handler
 
 # The most bytes of keys in a request, lines above the screen with which a browser begins, and bytes
 # that wait until a browser reads them.
@@ -86,8 +86,10 @@ class Live:
         if self.table.is_over:
             handler.close_connection = True  # Whoever was told that it ends need not come again.
             return
-        if not handler.server.streams.acquire(blocking=False):
-            raise Refused(503, f"{STREAMS} browsers listen already.")
+        if not handler.server.takes_stream(role):
+            count = STREAMS if role == TYPES else WATCHED
+            raise Refused(503, f"{count} browsers listen already.")
+        handler.server.idle.pop(handler.request, None)
         with self.table.changed:
             client = self.table.clients.enter(words.get("client"))
         try:
@@ -111,7 +113,7 @@ class Live:
             with self.table.changed:
                 self.table.clients.leave(client)
                 self.table.changed.notify_all()
-            handler.server.streams.release()
+            handler.server.end_stream(role)
 
 
 def heard_in(words, table):

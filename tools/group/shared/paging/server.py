@@ -23,11 +23,15 @@ HEADERS = {
     "Cross-Origin-Opener-Policy": "same-origin", "Cross-Origin-Resource-Policy": "same-origin",
     "Cache-Control": "no-store",
 }
-# The most bytes of a request's head and of its body, connections, and streams of events.
-HEAD, BODY, CONNECTIONS, STREAMS = 16384, 65536, 200, 64
+# The most bytes of a request's head and of its body, connections, and streams of events; and how
+# many of these those have who watch, so that some are left for those who type.
+HEAD, BODY, CONNECTIONS, STREAMS, WATCHED = 16384, 65536, 200, 64, 48
 # How long a request may take until it is read, an answer until it is taken, and a connection may
-# rest, in seconds.
-SLOW = 10.0
+# rest, in seconds; and how long the end of one is waited for whose place another one gets.
+SLOW, ROOM = 10.0, 1.0
+# Who loses a connection first where all are taken: those without a token, then those who watch.
+# Those who type lose none.
+RANKS = {None: 0, WATCHES: 1}
 
 
 class Server(http.server.ThreadingHTTPServer):
@@ -41,7 +45,10 @@ class Server(http.server.ThreadingHTTPServer):
         self.guard, self.files, self.gets, self.posts = guard, files, site.gets, site.posts
         self.context = context
         self.streams = threading.Semaphore(STREAMS)
+        self.watched = threading.Semaphore(WATCHED)
         self.connections = threading.Semaphore(CONNECTIONS)
+        # The connections that may be ended for others: the rank of each, and since when it waits.
+        self.idle = {}
         # The connections of which a request is awaited, each with its end.
         self.awaited, self.has_awaited = {}, threading.Event()
         super().__init__(address, Handler)
@@ -62,13 +69,45 @@ class Server(http.server.ThreadingHTTPServer):
         return connection, address
 
     def verify_request(self, request, client_address):
-        return self.connections.acquire(blocking=False)
+        return self.connections.acquire(blocking=False) or self.makes_room()
+
+    def makes_room(self):
+        """Ends the connection that waits longest without a request, of those that may be ended.
+        Whether there is room then."""
+        found = min(list(self.idle.items()), key=lambda it: it[1], default=None)
+        if found is None:
+            return False
+        self.idle.pop(found[0], None)
+        shut(found[0])
+        return self.connections.acquire(timeout=ROOM)
+
+    def note_role(self, connection, role):
+        """Notes who asks by a connection."""
+        if role in RANKS:
+            self.idle[connection] = RANKS[role], time.monotonic()
+        else:
+            self.idle.pop(connection, None)
+
+    def takes_stream(self, role):
+        """Whether one of this role gets a stream."""
+        if role == WATCHES and not self.watched.acquire(blocking=False):
+            return False
+        is_free = self.streams.acquire(blocking=False)
+        if role == WATCHES and not is_free:
+            self.watched.release()
+        return is_free
+
+    def end_stream(self, role):
+        self.streams.release()
+        if role == WATCHES:
+            self.watched.release()
 
     def process_request_thread(self, request, client_address):
         try:
             super().process_request_thread(request, client_address)
         finally:
             self.awaited.pop(request, None)
+            self.idle.pop(request, None)
             self.connections.release()
 
     def handle_error(self, request, client_address):
@@ -129,6 +168,7 @@ class Handler(http.server.BaseHTTPRequestHandler):
 
     def setup(self):
         self.request.settimeout(SLOW)
+        self.server.note_role(self.request, None)
         self.server.wait_for(self.request)
         if isinstance(self.request, ssl.SSLSocket):
             self.request.do_handshake()
@@ -195,6 +235,7 @@ class Handler(http.server.BaseHTTPRequestHandler):
     def do(self, what):
         try:
             self.server.guard.check(self.command, self.headers)
+            self.server.note_role(self.request, self.server.guard.role(self.headers))
             what(urllib.parse.urlsplit(self.path))
         except Refused as why:
             self.refuse(*why.args)

@@ -7,7 +7,7 @@ import stat
 
 from ..files import LASTING, Refused, text_of_fault
 from ..record import LOG_HEADER, RETIRED, Damaged, Reader, owner_of, read_record
-from ..watch import is_at, node_processes
+from ..watch import node_at, node_processes
 
 
 def retired_name(path, session):
@@ -108,9 +108,9 @@ def load(path):
 
 def check_stopped(path):
     """Refuses a record whose node runs, where this machine tells it."""
-    for pid, words in node_processes().items():
-        if any(is_at(path, pid, it) for it in words):
-            raise Refused(f"the node of {path} runs, process {pid}: stop the group first")
+    pid, _ = node_at(path, node_processes())
+    if pid is not None:
+        raise Refused(f"the node of {path} runs, process {pid}: stop the group first")
 
 
 class Source:
