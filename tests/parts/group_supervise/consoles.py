@@ -3,14 +3,19 @@ started, in the boot in which they were written and in another one."""
 
 import os
 
+from shared.consoles import View
+from shared.nodes import free_addresses
+from shared.sitting.seat import Seat
 from shared.synced import first_kept
+from shared.words import text_of_address
 
 from ..checks import expect, passed
 from ..files import bytes_of, file_with
 from ..group import await_that, type_at
 from ..program import must
-from ..scripts import expect_end
+from ..scripts import expect_end, path_of
 from ..supervised import group_of
+from ..terminals import Terminal
 
 # The boot of this machine, and another one.
 with open("/proc/sys/kernel/random/boot_id", encoding="ascii") as its_boot:
@@ -202,3 +207,47 @@ def check_emptied(folder):
         passed("a console that was emptied under its node is written anew")
     finally:
         it.end()
+
+
+# A console as a cut of the power has left it: how many bytes its note names, and in which boot, or
+# None; whether it was changed since this boot; and how many bytes of it are shown.
+LEFT = b"> one\0\0\0XX"
+VIEWED = (
+    ("what was synced before the cut", 2, OTHER, False, 2),
+    ("all that was synced", 5, OTHER, False, 5),
+    ("what is before the first zero, without a note", None, None, False, 5),
+    ("the same, where less is there than was synced", 99, OTHER, False, 5),
+    ("all, where it was synced in this boot", 5, HERE, False, len(LEFT)),
+    ("all, where it was changed in this boot", 5, OTHER, True, len(LEFT)),
+)
+
+
+def check_viewed(folder):
+    """What is shown of a console after a cut of the power, before a supervisor has mended it."""
+    path = os.path.join(folder, "console")
+    for what, length, boot, is_new, count in VIEWED:
+        file_with(folder, "console", LEFT)
+        if not is_new:
+            os.utime(path, (0, 0))
+        if boot:
+            file_with(folder, "console.synced", note_of(length, boot))
+        elif os.path.exists(f"{path}.synced"):
+            os.unlink(f"{path}.synced")
+        view, seat = View(), Seat(None, ("127.0.0.1", 9), path)
+        view.look(path)
+        shown = LEFT[:count].replace(b"\0", b"").decode()
+        is_so = view.lines(9) == [shown.rstrip()] and (seat.size(), seat.read(1, 99)) == (
+            count, LEFT[1:count])
+        expect(f"status and page show {what}", is_so, view.lines(9), seat.size())
+        expect(f"so does attach: {what}", shown_by_attach(path) == shown.encode())
+
+
+def shown_by_attach(path):
+    terminal = Terminal([path_of("attach"), text_of_address(free_addresses(1)[0]), path])
+    try:
+        terminal.await_shown(b">")
+        terminal.type(b"\x03")
+        terminal.end(0)
+    finally:
+        terminal.close()
+    return terminal.shown.partition(b"\r\n")[0]

@@ -3,6 +3,7 @@
 import os
 
 from .screens import Screen
+from .synced import trusted_size
 from .terminal import Terminal
 
 # How many bytes before the end of a file it begins with, and how many it takes at once.
@@ -24,14 +25,14 @@ class View:
     def look(self, path):
         """Reads what has come. OSError where that cannot be done."""
         with open(path, "rb") as file:
-            size, inode = file.seek(0, os.SEEK_END), os.fstat(file.fileno()).st_ino
+            size, inode = trusted_size(path), os.fstat(file.fileno()).st_ino
             if self.of != (path, inode) or size < self.at:
                 self.of, self.at = (path, inode), max(0, size - BEGIN)
                 self.terminal = Terminal(is_pair=True)
                 # The terminal knows itself what begins a line.
                 self.screen = Screen(self.name, is_lf=True) if self.name else None
             file.seek(self.at)
-            for data in iter(lambda: file.read(PIECE), b""):
+            for data in iter(lambda: file.read(min(PIECE, size - self.at)), b""):
                 self.at += len(data)
                 data = self.screen.translated(data) if self.screen else data
                 self.terminal.write(data.decode("latin-1"))

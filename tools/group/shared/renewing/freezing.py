@@ -9,8 +9,7 @@ import subprocess
 from ..files import Refused
 from ..frozen import TOOLS, frozen_at, wrote_before
 from ..session import session_of
-from ..supervising.consoles import boot_of_machine
-from ..synced import Note, first_kept, synced_path, text_of_note
+from ..synced import Note, boot_of_machine, first_kept, synced_path, text_of_note
 from ..whole import put_whole
 from .made import list_name, read_list
 from .retired import bytes_at, put, retired_name

@@ -8,7 +8,7 @@ from argparse import ArgumentTypeError
 
 from ..nodes import dropped_at, is_empty_at, stat_of
 from ..ports import is_local, is_owners, owner_of, users_at
-from ..synced import first_kept
+from ..synced import first_kept, trusted_size
 from ..watch import file_of, has_keys_at, link_of, plain_words, record_word
 from ..words import address_of
 from .votes import Votes
@@ -182,7 +182,7 @@ class Seat:
     def size(self):
         """How many bytes the console has, or None where it cannot be seen."""
         try:
-            return os.stat(self.console).st_size if self.console else None
+            return trusted_size(self.console) if self.console else None
         except OSError:
             return None
 
@@ -196,6 +196,6 @@ class Seat:
         try:
             with open(self.console, "rb") as file:
                 file.seek(begin)
-                return file.read(most)
+                return file.read(max(0, min(most, trusted_size(self.console) - begin)))
         except (OSError, TypeError):
             return None

@@ -29,29 +29,17 @@ import stat
 import threading
 
 from ..files import text_of_fault
-from ..synced import Note, note_at, synced_path, text_of_note
+from ..synced import NO_BOOT, PIECE, Note, boot_of_machine, note_at, synced_path, text_of_note
 from ..whole import put_whole, remove_whole
 
 # The least time between two syncs, and how long the end of one is waited for, in seconds.
 PAUSE, LONGEST = 2.0, 0.5
-# How many bytes of a console are read at once, and of how many whole ones a hole is made.
-PIECE, BLOCK = 1 << 20, 4096
+# Of how many whole bytes a hole is made.
+BLOCK = 4096
 # With a limit there may be so many times as many bytes before a hole is made.
 MORE = 1.25
 # Of fallocate: a hole, and the length stays.
 HOLE = 3
-BOOT = "/proc/sys/kernel/random/boot_id"
-# A boot that is no other's, and not trusted.
-NO_BOOT = "-"
-
-def boot_of_machine():
-    """What the system calls its present boot."""
-    try:
-        with open(BOOT, encoding="ascii") as file:
-            return file.read().strip() or NO_BOOT
-    except (OSError, ValueError):
-        return NO_BOOT
-
 
 def open_console(path):
     """Opens the file that gets the output, at its end. A new one is for its owner alone. A pipe

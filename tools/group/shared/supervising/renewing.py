@@ -24,9 +24,9 @@ from ..full import script
 from ..nodes import is_empty_at
 from ..record import PLACES, Damaged, read_head
 from ..renewing import plan as plans
+from ..synced import boot_of_machine
 from ..watch import file_of, keys_of, link_of, node_processes, plain_words
 from ..words import text_of_address
-from .consoles import boot_of_machine
 from .process import end_with
 from .supervised import SHARED
 
