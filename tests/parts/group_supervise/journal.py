@@ -2,21 +2,28 @@
 and what the unit leaves open."""
 
 import os
+import platform
 import re
 import shutil
 import signal
 import socket
 import subprocess
+import sys
 
 from shared.journal import PAUSE, Sparing
 
 from ..checks import expect, passed
-from ..group import await_that
+from ..files import bytes_of
+from ..group import await_that, type_at
+from ..page.visitor import Page
 from ..scripts import path_of
 from ..supervised import group_of
 
-# The greatest exposure of the unit that is taken, ten times as systemd-analyze prints it.
-EXPOSURE = 40
+# The greatest exposure of a unit that is taken, ten times as systemd-analyze prints it.
+EXPOSURE = 17
+UNITS = ("pgroup@.service", "pgroup-page@.service")
+FILTERED = os.path.join(os.path.dirname(os.path.realpath(__file__)), "filtered.py")
+WRITE_AND_RUN = "import mmap; mmap.mmap(-1, 4096, prot=7)"
 
 
 def check_sparing(_folder):
@@ -78,14 +85,40 @@ def check_journal(folder):
 
 
 def check_exposure(_folder):
-    """What systemd says of the unit, without running it."""
+    """What systemd says of the units, without running them."""
     if not shutil.which("systemd-analyze"):
         print("not tried: what systemd-analyze says of the unit, as there is none", flush=True)
         return
     words = ["systemd-analyze", "security", "--offline=yes", f"--threshold={EXPOSURE}"]
-    done = subprocess.run([*words, path_of("pgroup@.service")], check=False, capture_output=True,
-                          env={**os.environ, "SYSTEMD_PAGER": ""})
-    expect("the unit leaves little open", done.returncode == 0, done.stdout[-200:], done.stderr)
+    for it in UNITS:
+        done = subprocess.run([*words, path_of(it)], check=False, capture_output=True,
+                              env={**os.environ, "SYSTEMD_PAGER": ""})
+        expect(f"{it} leaves little open", done.returncode == 0, done.stdout[-200:], done.stderr)
 
 
-JOURNAL_CHECKS = (check_sparing, check_journal, check_exposure)
+def check_filtered(folder):
+    """A node, its supervisor and a page run under the filter of MemoryDenyWriteExecute."""
+    texts = [bytes_of(path_of(it)).decode() for it in UNITS]
+    is_so = all("\nMemoryDenyWriteExecute=yes\nRemoveIPC=yes\n" in it for it in texts)
+    expect("the units refuse memory that can be written and run", is_so)
+    if platform.machine() != "x86_64":
+        print("not tried: the filter of the units, which here is for x86-64", flush=True)
+        return
+    around = [sys.executable, FILTERED]
+    done = subprocess.run([*around, sys.executable, "-c", WRITE_AND_RUN], check=False,
+                          capture_output=True)
+    expect("the filter refuses such memory", b"PermissionError" in done.stderr, done)
+    it = group_of(1, folder, silent=0.3)[0]
+    it.around = around
+    try:
+        it.start("--new")
+        type_at(it.keys, b"one\n")
+        await_that(lambda: bytes_of(it.console) == b"> one\n> ", "the node shows a key")
+        page = Page(folder, it.record, around=around)
+        page.end()
+    finally:
+        it.end()
+    passed("a node, its supervisor and a page run under it")
+
+
+JOURNAL_CHECKS = (check_sparing, check_journal, check_exposure, check_filtered)

@@ -19,10 +19,11 @@ SECONDS = 30.0
 class Page(Running):
     """The script `page`, with these words."""
 
-    def __init__(self, folder, *words):
+    def __init__(self, folder, *words, around=()):
+        """`around` are words that come before the command."""
         self.errors = open(f"{folder}/page-errors", "w+b")
         self.process = subprocess.Popen(
-            [path_of("page"), *map(str, words)], stdin=subprocess.DEVNULL, stdout=subprocess.PIPE,
+            [*around, path_of("page"), *map(str, words)], stdin=subprocess.DEVNULL, stdout=subprocess.PIPE,
             stderr=self.errors, text=True,
         )
         self.tokens, self.port = {}, None
