@@ -23,8 +23,8 @@ class Page(Running):
         """`around` are words that come before the command."""
         self.errors = open(f"{folder}/page-errors", "w+b")
         self.process = subprocess.Popen(
-            [*around, path_of("page"), *map(str, words)], stdin=subprocess.DEVNULL, stdout=subprocess.PIPE,
-            stderr=self.errors, text=True,
+            [*around, path_of("page"), *map(str, words)], stdin=subprocess.DEVNULL,
+            stdout=subprocess.PIPE, stderr=self.errors, text=True,
         )
         self.tokens, self.port = {}, None
         for line in iter(self.process.stdout.readline, ""):
