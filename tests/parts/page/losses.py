@@ -2,10 +2,12 @@
 
 import re
 
+from shared.paging.life import NEAR
 from shared.paging.marks import LOST as LOSSES
 from shared.words import ask
 
 from ..checks import expect, passed
+from ..program import must
 from .room import Room
 from .visitor import await_page
 
@@ -70,7 +72,11 @@ def check_turns(visitor):
         dead = [it for it in zip(kinds, kinds[1:]) if it[0] in LOSSES and it[1] == "leads"]
         expect(f"node {at + 1} is not said to lead after a death", not dead, kinds)
         kept = [it for it in visitor.marks if it[2] == at and it[3] in (*LOSSES, "start")]
-        kinds = ["start" if it[3] == "start" else "ended"
-                 for it in sorted(kept, key=lambda it: it[1])]
+        kept.sort(key=lambda it: it[1])
+        kinds = ["start" if it[3] == "start" else "ended" for it in kept]
+        for one, two in zip(kept, kept[1:]):
+            is_late = "start" not in (one[3], two[3]) and two[1] - one[1] >= NEAR
+            must(not is_late, f"a limit of time: node {at + 1} was not up {NEAR} milliseconds after "
+                 f"a kill, which is told as another death: {kept}")
         expect(f"node {at + 1}: {len(kinds)} deaths and starts take turns", kinds == [
             ("ended", "start")[it % 2] for it in range(len(kinds))], kept)
