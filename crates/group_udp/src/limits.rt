@@ -15,12 +15,12 @@ pub const MOST_KEPT: usize = 65_536;
 /// The most typed datagrams that are taken in at once.
 pub const MOST_TAKEN_IN: u32 = 256;
 
-/// How often a node's own socket is passed over at most once it had nothing: a turn and the rest
-/// before or after it ask it once.
+/// How many receives pass the node's own socket over after one that found nothing there: the last
+/// of a turn, and the first of the rest after it.
 pub const OWN_PASSED_OVER: u8 = 1;
 
-/// How often the socket of typed bytes is passed over at most once it had nothing: for two cycles,
-/// each of which looks at it twice.
+/// How many looks pass the socket of typed bytes over after one that found nothing there: those of
+/// two cycles.
 pub const TYPED_PASSED_OVER: u8 = 4;
 
 /// The least time in milliseconds from one request to campaign that is taken to the next.

@@ -86,10 +86,10 @@ IsCaughtUp n = (n.waiting ≡ []) × (place_after n.kept.votes ≡ front n)
 
 -- Whether the tick of a turn is due at a node that knows this, once it has heard what came. After a
 -- rest it is not if a place was learned since the rest began, and the node has caught up: then it
--- knows of nothing that its Ask could bring. Where answers to what it would repeat are due, it is
--- not if a place was learned and no key waits: then places are being learned without it.
+-- knows of nothing that its Ask could bring. If answers to what it would repeat are due, it is not
+-- if a place was learned and no key waits: then places are being learned without it.
 -- Allows: a tick for which memory runs out.
--- Forbids: a key that waits, and is not submitted for want of a tick.
+-- Forbids: a tick left out while a key waits.
 abbrev pub IsTickDue : Rested → Known → Type 0
 IsTickDue No n = Unit {0}
 IsTickDue (From rested) n = ¬ ((rested < front n) × IsCaughtUp n)

@@ -4,8 +4,8 @@
 //! calls do most of the work:
 //!
 //! - `Host::start(alloc, program, config, store)` starts a node over its store.
-//! - `host.turn(&mut wire, Rested::No)` takes the datagrams that are there, ticks, and runs the machine.
-//!   What the node sends goes out in the same call.
+//! - `host.turn(&mut wire, Rested::No)` takes the datagrams that are there, ticks, and runs the
+//!   machine. What the node sends goes out in the same call.
 //! - `host.release()` gives the next byte of the program's output, with its number.
 //!
 //! `host.press(&mut bytes)` types bytes at the node, `host.campaign(&mut wire)` has it ask to lead,

@@ -7,7 +7,7 @@ pub enum Rested {
     No,
     /// The node has rested. Its known front was this one when the rest began.
     From(u32),
-    /// The same, and answers to what a tick would repeat are due: the node has ticked a short while
-    /// ago, and no key was typed since then.
+    /// The same, and answers to what a tick would repeat are due, since the node has ticked a short
+    /// while ago.
     Awaits(u32),
 }

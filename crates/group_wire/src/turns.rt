@@ -220,9 +220,9 @@ impl<'a, S: Store> Host<'a, S> {
     /// `rested` has the known front of the node when it began to rest before this turn. The tick is
     /// due unless a place was learned since then, none of the node's keys waits, and the last place
     /// at which it has voted is the one below its known front (`IsTickDue`): then the node knows of
-    /// nothing that such a tick could bring. Where answers to what it would repeat are due
-    /// (`Rested::Awaits`), its votes do not matter. Without a rest (`Rested::No`) the tick is always
-    /// due.
+    /// nothing that such a tick could bring. If answers to what it would repeat are due
+    /// (`Rested::Awaits`), its votes do not matter. Without a rest (`Rested::No`) the tick is
+    /// always due.
     ///
     /// Fails with `Stopped` exactly if a save had failed before, or with `Store` if one fails now.
     /// The node hears each message of the group that a datagram spells, in order, but for those

@@ -10,8 +10,9 @@ pub returns-then-not-take_in : goal.returns-then-not-take_in
 returns-then-not-take_in g c =
     let (came, left) = c.loop.invariant in
     let (more, next) = c.take_in.ensures.came in
+    let before = left ∙ ap (with_more came) c.is_passed_over.ensures.same in
     record {
-      came = takes_in _ _ (with_more more came) (next ∙ ap (with_more more) (left ∙ ap (with_more came) c.is_passed_over.ensures.same) ∙ came_twice _ came more) refl refl refl refl;
+      came = takes_in _ _ (with_more more came) (next ∙ ap (with_more more) before ∙ came_twice _ came more) refl refl refl refl;
       counted = refl;
     }
 
