@@ -1,5 +1,5 @@
 //! UDP sockets as wires.
-ghost use Rattle.std.specs.Prelude.{◌≡◌, ◌≤◌, length, IfErr, IfSome};
+ghost use Rattle.std.specs.Prelude.{◌≡◌, ◌≤◌, false, length, IfErr, IfSome};
 ghost use Rattle.node_io.specs.Refusals.{IsOpenRefusal, IsSocketRefusal};
 ghost use Rattle.group_udp.specs.Sources.{drop_of};
 
@@ -201,6 +201,14 @@ impl<'a, H: Clock + Files + AllocGlobal> UdpWire<'a, H> {
         Instant::now(self.clock).ok()
     }
 
+    /// Notes that something but an Ask is sent now, or counts as sent.
+    fn note_sent(&mut self)
+        requires unsent { self.old.rest.has_sent ≡ false }
+    {
+        let now = self.now();
+        self.rest.note_sent(now);
+    }
+
     /// Returns the number of nodes in the group.
     fn size(&self) -> u8 {
         u8::try_from(self.addresses.len()).unwrap_or(MOST_NODES)
@@ -250,8 +258,7 @@ impl<H: Clock + Files + AllocGlobal> Wire for UdpWire<'_, H> {
     // short.
     fn send(&mut self, to: u8, bytes: &[u8]) -> bool {
         if !self.rest.has_sent() && !is_ask(bytes) {
-            let now = self.now();
-            self.rest.note_sent(now);
+            self.note_sent();
         }
         if to == self.node && self.own.push(bytes) {
             return true;
@@ -297,6 +304,12 @@ impl<H: Clock + Files + AllocGlobal> RestingWire for UdpWire<'_, H> {
     fn note_ticked(&mut self) {
         let now = self.now();
         self.rest.note_ticked(now);
+    }
+
+    fn note_awaits(&mut self) {
+        if !self.rest.has_sent() {
+            self.note_sent();
+        }
     }
 
     /// Returns true if the node ticked less than 200 milliseconds ago.

@@ -33,6 +33,11 @@ pub trait RestingWire: Wire {
     fn note_ticked(&mut self)
         ensures passed { Self.traffic self.new ≡ Self.traffic self.old };
 
+    /// Notes that a leader leaves its tick out while it waits for answers. The next rest is as long
+    /// as if it had repeated what it waits for.
+    fn note_awaits(&mut self)
+        ensures passed { Self.traffic self.new ≡ Self.traffic self.old };
+
     /// Returns true if answers to what a tick would repeat are due, since the node has ticked a
     /// short while ago. While a wire says so and places are learned, a node at which no key waits
     /// does not tick.

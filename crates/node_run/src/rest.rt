@@ -16,7 +16,7 @@ ghost use Rattle.node_run.specs.Keeping.{KeepsOutput, Works};
 
 use crate::endpoints::Endpoints;
 use crate::limits::MOST_RESTING;
-use group_node::Ran;
+use group_node::{Node, Ran};
 use group_wire::laws::deeds_go_on;
 use group_wire::{Host, Received, Rested, Tick};
 use node_io::{GroupFault, Keyboard, RestingWire, Waited};
@@ -167,6 +167,25 @@ fn rested_since<T: RestingWire>(wire: &T, begun: u32) -> Rested
     }
 }
 
+/// Returns true if the node leads, and has voted at a place that it has not learned: it waits for
+/// answers.
+fn leads_with_open_places<S: Store>(node: &Node<'_, S>) -> bool {
+    let front = node.known_front();
+    let last = node.record().votes.as_slice().last();
+    node.is_leading() && last.is_some_and(|vote| vote.place >= front)
+}
+
+/// Tells the wire what became of the tick of a turn.
+fn note_tick<T: RestingWire, S: Store>(wire: &mut T, node: &Node<'_, S>, tick: Tick)
+    ensures passed { T.traffic wire.new ≡ T.traffic wire.old }
+{
+    match tick {
+        Tick::Made => wire.note_ticked(),
+        Tick::NotDue if leads_with_open_places(node) => wire.note_awaits(),
+        Tick::NotDue | Tick::Lost => {}
+    }
+}
+
 /// Takes a turn of a node on its wire. The node's known front was at `begun` when its cycle began.
 /// Returns why its machine stopped.
 pub fn own_turn<T: RestingWire, S: Store>(
@@ -192,9 +211,7 @@ pub fn own_turn<T: RestingWire, S: Store>(
     let rested = rested_since(wire, begun);
     match host.turn(wire, rested) {
         Ok(turned) => {
-            if turned.tick == Tick::Made {
-                wire.note_ticked();
-            }
+            note_tick(wire, host.node(), turned.tick);
             Ok(turned.ran)
         }
         Err(fault) => Err(GroupFault::Node(fault)),
