@@ -76,7 +76,7 @@ def check_turns(visitor):
         kinds = ["start" if it[3] == "start" else "ended" for it in kept]
         for one, two in zip(kept, kept[1:]):
             is_late = "start" not in (one[3], two[3]) and two[1] - one[1] >= NEAR
-            must(not is_late, f"a limit of time: node {at + 1} was not up {NEAR} milliseconds after "
-                 f"a kill, which is told as another death: {kept}")
+            must(not is_late, f"a limit of time: node {at + 1} was not up {NEAR} ms after a kill, "
+                 f"which is told as another death: {kept}")
         expect(f"node {at + 1}: {len(kinds)} deaths and starts take turns", kinds == [
             ("ended", "start")[it % 2] for it in range(len(kinds))], kept)
