@@ -31,6 +31,9 @@ LIBC = ctypes.CDLL(None)
 PAUSE, LONGEST_PAUSE, STEADY = 0.1, 5.0, 2.0
 # After how many seconds at most it is said that a node does not move, however long --silent is.
 MINUTE = 60.0
+# A node that lacks more places than this, and has learned some within so many seconds, catches up:
+# one that has them leads sooner. A leader may have voted at 1,024 places that it does not know.
+MANY, LEARNS = 2048, 1.5
 # What a node's log says of something that went wrong begins so.
 FAULTS = ("campaign refused", "no room for typed keys", "cannot send", "dropped", "trace lost")
 
@@ -94,7 +97,7 @@ class Node:
         # Of this process of the node, the first place that it has not learned, and how many keys
         # wait at it; None as long as its log has not said so.
         self.front, self.waiting = None, None
-        self.started = self.moved = 0
+        self.started = self.moved = self.learned = 0
         self.pause, self.due = PAUSE, time.monotonic()
 
     def tell(self, text):
@@ -209,7 +212,8 @@ class Node:
         """Says what a line of the node's log means for a person, and remembers what went wrong."""
         end, known = end_of(text), KNOWN.fullmatch(text)
         if known:
-            self.front, self.waiting = map(int, known.groups())
+            before, (self.front, self.waiting) = self.front, map(int, known.groups())
+            self.learned = self.learned if self.front == before else time.monotonic()
         if text.startswith(FAULTS):
             self.fault = time.time(), text
         if end is not None:
@@ -270,11 +274,16 @@ class Node:
         return f"its process {self.process.pid} is in state {state}"
 
     def is_ready(self, now):
-        """Whether it may be asked to campaign: it runs, moves, and had time to hear what the
-        others know."""
+        """Whether it may be asked to campaign: it runs, moves, had time to hear what the others
+        know, and does not learn most of it just now."""
         silent = self.words.silent
         is_heard = now - self.moved < silent <= now - self.started
-        return self.process is not None and is_heard
+        return self.process is not None and is_heard and not self.catches_up(now)
+
+    def catches_up(self, now):
+        places = self.head.places
+        is_behind = None not in (places, self.front) and places - self.front > MANY
+        return is_behind and now - self.learned < LEARNS
 
     def end_process(self):
         """Ends the process, if there is one."""
