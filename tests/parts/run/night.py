@@ -54,7 +54,7 @@ CHANGES = [
     ("a message that has changed", LEAD, "nobody receives at", "nobody is at",
      [f"{PAGE} {ROW} the message `lead: nobody is at`"]),
     ("a row that is gone", PAGE, r"^\| `attach: CONSOLE was cut .*\n", "",
-     [f"{PAGE} {ROW} the message `attach: .. was cut to .. bytes: the rest is shown again`"]),
+     [f"{PAGE} {ROW} the message `was cut to .. bytes: the rest is shown again`"]),
     ("a row with too short a beginning", PAGE, "`of the console of node N the bytes .*?`",
      "`of the ..`", [f"{PAGE} {ROW} the message `of the console of .. the bytes up to .. are no "
                      "longer kept`"]),
