@@ -32,9 +32,10 @@ KILLED, BOTH, RESTARTED, LOST = (
 
 
 def type_in(place):
-    """Types a key at a node, which may be in a namespace."""
+    """Types a key at a node, which may be in a namespace. It may be lost."""
     command = f"printf k > /dev/udp/{text_of_address(place.keys).replace(':', '/')}"
-    subprocess.run([*place.around, "bash", "-c", command], check=True)
+    words = [*place.around, "bash", "-c", command]
+    subprocess.run(words, check=False, stderr=subprocess.DEVNULL)
 
 
 class Takeovers:
