@@ -9,6 +9,7 @@ import time
 from unittest import mock
 
 from shared import record as reading
+from shared.nodes import stat_of
 from shared.record import Damaged, Head, read_record, record_of
 from shared.seen import point_of, point_of_head
 
@@ -21,9 +22,9 @@ from ..renew.records import NOOP, keys, log, vote
 from ..scripts import session_of
 from ..supervised import group_of
 
-# The votes of a record that is large; and how long a boot may take, and a node that was killed, in
-# seconds: three and a third of one are promised, and the rest is room for a machine that is busy.
-LARGE, BOOT, AGAIN = 60000, 4.5, 1.5
+# The votes of a record that is large; and how many seconds of a processor its supervisor may take at
+# a boot, and for a node that was killed. A machine that is busy takes longer for the same.
+LARGE, BOOT, AGAIN = 60000, 3.0, 1.2
 PROMISED = b"\x02" + number(1) + number(1, 1)
 
 
@@ -138,13 +139,17 @@ def check_read_once(folder):
     passed("and each time what the head says is what the record does")
 
 
-def seconds_to(is_so, what, most):
-    begun = time.monotonic()
+def processor_time(pid):
+    return sum(map(int, stat_of(pid)[11:13])) / os.sysconf("SC_CLK_TCK")
+
+
+def seconds_to(is_so, what, pid, most):
+    before, begun = processor_time(pid), time.monotonic()
     await_that(is_so, what)
-    took = time.monotonic() - begun
-    if took > most:
-        raise Broken(f"{what} after {took:.1f} s, and the limit of time is {most} s")
-    return took
+    used = processor_time(pid) - before
+    if used > most:
+        raise Broken(f"{what} after {used:.1f} s of a processor; the limit of time is {most} s")
+    return time.monotonic() - begun
 
 
 def check_large(folder):
@@ -154,11 +159,12 @@ def check_large(folder):
     file_with(folder, "record1", log(1, *votes, session=session_of(ECHO)))
     try:
         it.begin()
-        boot = seconds_to(it.is_up, "a node with a large record is up after a boot", BOOT)
+        pid, what = it.process.pid, "a node with a large record is up after a"
+        boot = seconds_to(it.is_up, f"{what} boot", pid, BOOT)
         killed = it.node()
         os.kill(killed, signal.SIGKILL)
         is_again = lambda: it.node() not in (None, killed) and it.is_up()
-        again = seconds_to(is_again, "a node with a large record is up again after a kill", AGAIN)
+        again = seconds_to(is_again, f"{what} kill", pid, AGAIN)
         passed(f"a node with {LARGE} votes is up {boot:.1f} s after a boot, {again:.2f} s after a "
                "kill")
     finally:
