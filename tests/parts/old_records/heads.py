@@ -22,8 +22,8 @@ from ..renew.records import NOOP, keys, log, vote
 from ..scripts import session_of
 from ..supervised import group_of
 
-# The votes of a record that is large; and how many seconds of a processor its supervisor may take at
-# a boot, and for a node that was killed. A machine that is busy takes longer for the same.
+# The votes of a record that is large; and how many seconds of a processor its supervisor may take
+# at a boot, and for a node that was killed. A machine that is busy takes longer for the same.
 LARGE, BOOT, AGAIN = 60000, 3.0, 1.2
 PROMISED = b"\x02" + number(1) + number(1, 1)
 

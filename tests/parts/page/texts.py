@@ -64,7 +64,7 @@ def check_heading(_):
 
 def check_why():
     """While nobody leads, or no majority runs, the heading says who was lost."""
-    soon = ("The program waits until a node leads, usually a second or two. Go on typing: what you "
+    soon = ("The program waits until a node leads, usually within a second. Go on typing: what you "
             "type is kept.")
     found = heading_of(nodes("up", "up", "up"), 3, None, True, True)
     expect("while supervisors run, a group that nobody leads alarms nobody", found == soon, found)

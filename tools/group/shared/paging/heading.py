@@ -3,7 +3,7 @@
 from .sentences import lower, nodes_named, upper, who_was_lost
 
 RUNS = ("up", "leads")
-SHORTLY = ("The program waits until a node leads, usually a second or two. Go on typing: what "
+SHORTLY = ("The program waits until a node leads, usually within a second. Go on typing: what "
            "you type is kept.")
 ASKED = ("The program waits until a node leads. Unless a supervisor asks one, a person has to: it "
          "is said below. What you type is kept.")
