@@ -8,7 +8,7 @@ LINES_OF_README, WORDS_OF_PROMISES = 129, 3000
 # How many words README and docs may have without what sources make. It was 80,568 for the pages of
 # 0.11.0, so a page that gets longer lets another one get shorter. Who adds a page that is needed
 # raises it, and says in the commit why.
-MOST = 80545
+MOST = 80470
 # What sources make, wholly or but for a few lines.
 MADE = ("docs/DEFINITIONS.md", "docs/reference/")
 
