@@ -87,7 +87,8 @@ def check_known(_folder):
             sample = f'\npgroup_node_{name}{{session="7",node="1"}} {value}\n'
             is_so &= sample in metrics or value == "unknown" and name not in metrics
         expect(f"{shown}: in the line, in JSON and in the metrics", is_so, line, json, metrics)
-    node = Node.__new__(Node)  # nothing of it is needed but what it notes
+    node = Node.__new__(Node)  # Nothing of it is needed but what it notes.
+    node.front, node.learned = None, 0
     for text, known in (("known front 12 waiting 3", (12, 3)), ("leads ballot 4.2", (12, 3)),
                         ("known front 65536 waiting 256", (65536, 256))):
         node.note(text)
