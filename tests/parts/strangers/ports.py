@@ -57,13 +57,14 @@ class Taker:
         self.process.stdout.close()
 
 
-def typed(words, text, said):
-    """Types at `attach` with these words, until it has said this."""
+def typed(words, text, said, then=lambda: None):
+    """Types at `attach` with these words, until it has said this and something else is done."""
     terminal = Terminal([path_of("attach"), "--lf", *words])
     try:
         terminal.await_ready()
         terminal.type(text)
         terminal.await_shown(said)
+        then()
         terminal.type(b"\x03")
         terminal.end(0)
     finally:
@@ -100,8 +101,11 @@ def check_unseen(folder):
     """Whose a port is that nobody can see is said, and keys are sent."""
     with socket.socket(socket.AF_INET, socket.SOCK_DGRAM) as receiver:
         receiver.bind(("127.0.0.1", 0))
+        receiver.settimeout(60)
         address = text_of_address(receiver.getsockname())
-        said = f"whose port {address} is cannot be seen here".encode()
-        shown = typed([address, os.path.join(folder, "none")], b"keys", said)
-        is_so = shown.count(said) == 1 and receiver.recv(100) == b"keys"
+        said, got = f"whose port {address} is cannot be seen here".encode(), []
+        words = [address, os.path.join(folder, "none")]
+        # It says so before it sends.
+        shown = typed(words, b"keys", said, lambda: got.append(receiver.recv(100)))
+        is_so = shown.count(said) == 1 and got == [b"keys"]
         expect("where the owner cannot be seen keys are sent, with a line", is_so, shown)
